@@ -1,0 +1,10 @@
+// Bytes at offsets, and the check of a 512-byte block.
+mod bytes;
+mod check;
+
+pub use bytes::are_zero;
+pub use bytes::byte_at;
+pub use bytes::number_at;
+pub use bytes::put;
+pub use bytes::put_zeros;
+pub use check::block_check;

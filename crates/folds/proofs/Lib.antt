@@ -1,0 +1,5 @@
+pub mod AllAny
+pub mod Rules
+pub mod Stores
+pub mod Sums
+pub mod Tables

@@ -1,0 +1,4 @@
+pub mod Accepted
+pub mod Lookups
+pub mod Rows
+pub mod Unused

@@ -1,0 +1,28 @@
+-- By the tests. Assumes nothing.
+use borrow.Author.Tests.{lt-leb, le-leb}
+use Rattle.plan.specs.Rules.{nodesRight}
+use borrow.Author.Needs.{needs}
+use Rattle.plan.proofs.rules.nodes_right.Statement.{statement}
+use Rattle.plan.proofs.rules.nodes_right.Tie as tie
+
+returns : tie.Need-returns
+unfolding nodesRight
+returns c = search (needs, lt-leb, le-leb)
+
+returns-2 : tie.Need-returns-2
+unfolding nodesRight
+returns-2 c = search (needs, lt-leb, le-leb)
+
+cast-each-node-right : tie.Need-cast-each-node-right
+cast-each-node-right c = search needs
+
+each-node-right-requires : tie.Need-each-node-right-requires
+each-node-right-requires c κs = search needs
+
+returns-3 : tie.Need-returns-3
+unfolding nodesRight
+returns-3 c = search (needs, lt-leb, le-leb)
+
+pub nodes-right-spec : {M : Type 1} → statement M
+nodes-right-spec =
+    tie.close (tie.spec returns returns-2 cast-each-node-right each-node-right-requires returns-3)

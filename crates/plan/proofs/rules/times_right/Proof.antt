@@ -1,0 +1,43 @@
+-- By what each test ensures. Assumes nothing.
+use Rattle.plan.specs.Rules.{timesRight}
+use borrow.Author.Needs.{needs}
+use Rattle.plan.proofs.rules.times_right.Statement.{statement}
+use Rattle.plan.proofs.rules.times_right.Tie as tie
+
+in-range-requires : tie.Need-in-range-requires
+in-range-requires c κs = search needs
+
+in-range-requires-2 : tie.Need-in-range-requires-2
+in-range-requires-2 c κs = search needs
+
+in-range-requires-3 : tie.Need-in-range-requires-3
+in-range-requires-3 c κs = search needs
+
+in-range-requires-4 : tie.Need-in-range-requires-4
+in-range-requires-4 c κs = search needs
+
+in-range-requires-5 : tie.Need-in-range-requires-5
+in-range-requires-5 c κs = search needs
+
+in-range-requires-6 : tie.Need-in-range-requires-6
+in-range-requires-6 c κs = search needs
+
+in-range-requires-7 : tie.Need-in-range-requires-7
+in-range-requires-7 c κs = search needs
+
+returns : tie.Need-returns
+unfolding timesRight
+returns c = cc
+
+pub times-right-spec : {M : Type 1} → statement M
+times-right-spec =
+    tie.close
+    (tie.spec
+    in-range-requires
+    in-range-requires-2
+    in-range-requires-3
+    in-range-requires-4
+    in-range-requires-5
+    in-range-requires-6
+    in-range-requires-7
+    returns)

@@ -1,0 +1,3 @@
+pub mod Find
+pub mod Record
+pub mod Rules

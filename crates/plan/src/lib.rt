@@ -1,0 +1,100 @@
+// The plan record of a release set. Every value is a number that can hold a wrong one, so that a wrong record is refused and not impossible.
+ghost use mathlib.Core.Path.{_≡_};
+ghost use Rattle.plan.specs.Record.{zeroPlan};
+
+mod find;
+mod rules;
+
+pub use find::find_row;
+pub use rules::plan_refusal;
+
+pub struct NodeEntry {
+    pub address: u8,
+    // diagnostic class, 1 to 3
+    pub class: u8,
+    // 0 event-triggered, 1 polled
+    pub method: u8,
+    // the entry's fourth byte, 0
+    pub reserved: u8,
+}
+
+pub struct Row {
+    pub reqid: u8,
+    // a node number, or 255 for the master
+    pub publisher: u8,
+    pub length: u8,
+    // the row's last byte: 1 with a sequence count, 0 without
+    pub kind: u8,
+}
+
+// Times in ticks of 1 ms.
+pub struct Times {
+    // W: how long a permission is held
+    pub window: u16,
+    // D: clock stop, after the sleep message was sent
+    pub stop: u16,
+    // S: node sleep, after the sleep message was received
+    pub sleep: u16,
+    // E: quiet limit, without clock
+    pub quiet: u16,
+    // R: wake-up recovery, from one wake-up pulse to the next
+    pub recovery: u16,
+    // P: wake-up space, until a woken node gives up
+    pub space: u16,
+    // C: clock start, after a wake-up
+    pub start: u16,
+}
+
+pub struct Plan {
+    pub revision: u16,
+    pub nodecount: u8,
+    pub times: Times,
+    pub nodes: [NodeEntry; 16],
+    pub rowcount: u16,
+    pub rows: [Row; 127],
+}
+
+// What a ReqId's lookup finds.
+pub enum Lookup {
+    Found(Row),
+    Missing,
+}
+
+impl Plan {
+    // The record that a refused read gives.
+    pub fn zero() -> Plan
+        ensures { λ r. ⌜ r ≡ zeroPlan ⌝ }
+    {
+        let entry = NodeEntry {
+            address: 0,
+            class: 0,
+            method: 0,
+            reserved: 0,
+        };
+        let row = Row {
+            reqid: 0,
+            publisher: 0,
+            length: 0,
+            kind: 0,
+        };
+        let times = Times {
+            window: 0,
+            stop: 0,
+            sleep: 0,
+            quiet: 0,
+            recovery: 0,
+            space: 0,
+            start: 0,
+        };
+        let nodes = [entry; 16];
+        let rows = [row; 127];
+        Plan {
+            revision: 0,
+            nodecount: 0,
+            times,
+            nodes,
+            rowcount: 0,
+            rows,
+        }
+    }
+}

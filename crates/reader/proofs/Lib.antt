@@ -1,0 +1,5 @@
+pub mod Accepted
+pub mod Answers
+pub mod Content
+pub mod Filler
+pub mod Refusals

@@ -1,0 +1,66 @@
+-- By the tests, in their order. Assumes nothing.
+use mathlib.Core.Path.{_≡_, sym, ap, _∙_}
+use mathlib.Core.List.{[], _∷_}
+use borrow.Author.Tests.{not-true, not-false}
+use Rattle.folds.specs.Fold.{pick}
+use Rattle.folds.specs.FirstBroken.{firstBroken}
+use Rattle.plan.specs.Rules.{inRange}
+use Rattle.reader.proofs.Content.{other-revision, wrong-count, plan-refused, filler-last}
+use borrow.Author.Needs.{needs}
+use Rattle.reader.proofs.rules.content_refusal.Statement.{statement}
+use Rattle.reader.proofs.rules.content_refusal.Tie as tie
+
+revisions-same-requires : tie.Need-revisions-same-requires
+revisions-same-requires c κs = search needs
+
+returns : tie.Need-returns
+returns c = sym (other-revision _ (c .before .before .before .args .p) (sym (c .before .revisions-same .ensures) ∙ not-true _ (c .if1 .taken)))
+
+plan-refusal-requires : tie.Need-plan-refusal-requires
+plan-refusal-requires c κs = search needs
+
+counts-right-requires : tie.Need-counts-right-requires
+counts-right-requires c κs = search needs
+
+with-wrong-count-requires : tie.Need-with-wrong-count-requires
+with-wrong-count-requires c κs = search needs
+
+returns-2 : tie.Need-returns-2
+returns-2 c =
+    c .with-wrong-count .ensures ∙ ap (λ k. pick (inRange 4 6 k) k 7) (c .before .before .before .plan-refusal .ensures)
+    ∙ sym (wrong-count _ (c .before .before .before .before .before .before .before .args .p) (sym (c .before .before .before .before .before .revisions-same .ensures) ∙ not-false _ (c .before .before .before .before .if1 .left)) (sym (c .before .before .counts-right .ensures) ∙ not-true _ (c .before .if2 .taken)))
+
+returns-3 : tie.Need-returns-3
+returns-3 c =
+    c .before .before .before .plan-refusal .ensures
+    ∙ sym (plan-refused _ (c .before .before .before .before .before .before .before .args .p) (sym (c .before .before .before .before .before .revisions-same .ensures) ∙ not-false _ (c .before .before .before .before .if1 .left)) (sym (c .before .before .counts-right .ensures) ∙ not-false _ (c .before .if2 .left)) (λ z. c .if3 .taken (c .before .before .before .plan-refusal .ensures ∙ z)))
+
+filler-right-requires : tie.Need-filler-right-requires
+filler-right-requires c κs = search needs
+
+returns-4 : tie.Need-returns-4
+returns-4 c =
+    let z : c .before .before .before .before .before .plan-refusal .result ≡ 0 = search needs in
+    ap (λ b. firstBroken 9 (b ∷ [])) (sym (sym (c .before .filler-right .ensures) ∙ not-true _ (c .if4 .taken)))
+    ∙ sym (filler-last _ (c .before .before .before .before .before .before .before .before .before .args .p) (sym (c .before .before .before .before .before .before .before .revisions-same .ensures) ∙ not-false _ (c .before .before .before .before .before .before .if1 .left)) (sym (c .before .before .before .before .counts-right .ensures) ∙ not-false _ (c .before .before .before .if2 .left)) (sym (c .before .before .before .before .before .plan-refusal .ensures) ∙ z))
+
+returns-5 : tie.Need-returns-5
+returns-5 c =
+    let z : c .before .before .before .before .before .plan-refusal .result ≡ 0 = search needs in
+    ap (λ b. firstBroken 9 (b ∷ [])) (sym (sym (c .before .filler-right .ensures) ∙ not-false _ (c .if4 .left)))
+    ∙ sym (filler-last _ (c .before .before .before .before .before .before .before .before .before .args .p) (sym (c .before .before .before .before .before .before .before .revisions-same .ensures) ∙ not-false _ (c .before .before .before .before .before .before .if1 .left)) (sym (c .before .before .before .before .counts-right .ensures) ∙ not-false _ (c .before .before .before .if2 .left)) (sym (c .before .before .before .before .before .plan-refusal .ensures) ∙ z))
+
+pub content-refusal-spec : {M : Type 1} → statement M
+content-refusal-spec =
+    tie.close
+    (tie.spec
+    revisions-same-requires
+    returns
+    plan-refusal-requires
+    counts-right-requires
+    with-wrong-count-requires
+    returns-2
+    returns-3
+    filler-right-requires
+    returns-4
+    returns-5)

@@ -1,0 +1,35 @@
+-- By computation. Assumes nothing.
+use Rattle.reader.specs.Rules.{countsRight}
+use borrow.Author.Needs.{needs}
+use Rattle.reader.proofs.rules.counts_right.Statement.{statement}
+use Rattle.reader.proofs.rules.counts_right.Tie as tie
+
+byte-at-requires : tie.Need-byte-at-requires
+byte-at-requires c κs = search needs
+
+in-range-requires : tie.Need-in-range-requires
+in-range-requires c κs = search needs
+
+byte-at-requires-2 : tie.Need-byte-at-requires-2
+byte-at-requires-2 c κs = search needs
+
+byte-at-requires-3 : tie.Need-byte-at-requires-3
+byte-at-requires-3 c κs = search needs
+
+in-range-requires-2 : tie.Need-in-range-requires-2
+in-range-requires-2 c κs = search needs
+
+returns : tie.Need-returns
+unfolding countsRight
+returns c = cc
+
+pub counts-right-spec : {M : Type 1} → statement M
+counts-right-spec =
+    tie.close
+    (tie.spec
+    byte-at-requires
+    in-range-requires
+    byte-at-requires-2
+    byte-at-requires-3
+    in-range-requires-2
+    returns)

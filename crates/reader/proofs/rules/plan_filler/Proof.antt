@@ -1,0 +1,42 @@
+-- By ranges. Assumes nothing.
+use mathlib.Core.Path.{ap₂, _∙_}
+use mathlib.Core.Bool.{_&&_}
+use Rattle.reader.proofs.Filler.{plan-runs}
+use borrow.Author.Needs.{needs}
+use Rattle.reader.proofs.rules.plan_filler.Statement.{statement}
+use Rattle.reader.proofs.rules.plan_filler.Tie as tie
+
+byte-at-requires : tie.Need-byte-at-requires
+byte-at-requires c κs = search needs
+
+filler-start-requires : tie.Need-filler-start-requires
+filler-start-requires c κs = search needs
+
+are-zero-requires : tie.Need-are-zero-requires
+are-zero-requires c κs = search needs
+
+are-zero-requires-2 : tie.Need-are-zero-requires-2
+are-zero-requires-2 c κs = search needs
+
+sub-are-zero : tie.Need-sub-are-zero
+sub-are-zero c = search needs
+
+are-zero-requires-3 : tie.Need-are-zero-requires-3
+are-zero-requires-3 c κs = search needs
+
+returns : tie.Need-returns
+returns c =
+    ap₂ _&&_ (ap₂ _&&_ (c .before .before .are-zero .ensures) (c .before .are-zero2 .ensures)) (c .are-zero3 .ensures)
+    ∙ plan-runs _ _ (rw (c .before .before .before .before .byte-at .ensures) at (c .before .before .before .filler-start .ensures))
+
+pub plan-filler-spec : {M : Type 1} → statement M
+plan-filler-spec =
+    tie.close
+    (tie.spec
+    byte-at-requires
+    filler-start-requires
+    are-zero-requires
+    are-zero-requires-2
+    sub-are-zero
+    are-zero-requires-3
+    returns)

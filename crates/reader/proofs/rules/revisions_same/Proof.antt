@@ -1,0 +1,23 @@
+-- By computation. Assumes nothing.
+use Rattle.reader.specs.Rules.{revisionsSame}
+use borrow.Author.Needs.{needs}
+use Rattle.reader.proofs.rules.revisions_same.Statement.{statement}
+use Rattle.reader.proofs.rules.revisions_same.Tie as tie
+
+revision-same-requires : tie.Need-revision-same-requires
+revision-same-requires c κs = search needs
+
+revision-same-requires-2 : tie.Need-revision-same-requires-2
+revision-same-requires-2 c κs = search needs
+
+revision-same-requires-3 : tie.Need-revision-same-requires-3
+revision-same-requires-3 c κs = search needs
+
+returns : tie.Need-returns
+unfolding revisionsSame
+returns c = cc
+
+pub revisions-same-spec : {M : Type 1} → statement M
+revisions-same-spec =
+    tie.close
+    (tie.spec revision-same-requires revision-same-requires-2 revision-same-requires-3 returns)

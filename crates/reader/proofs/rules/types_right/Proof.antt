@@ -1,0 +1,22 @@
+-- By computation. Assumes nothing.
+use Rattle.reader.specs.Rules.{typesRight}
+use borrow.Author.Needs.{needs}
+use Rattle.reader.proofs.rules.types_right.Statement.{statement}
+use Rattle.reader.proofs.rules.types_right.Tie as tie
+
+type-right-requires : tie.Need-type-right-requires
+type-right-requires c κs = search needs
+
+type-right-requires-2 : tie.Need-type-right-requires-2
+type-right-requires-2 c κs = search needs
+
+type-right-requires-3 : tie.Need-type-right-requires-3
+type-right-requires-3 c κs = search needs
+
+returns : tie.Need-returns
+unfolding typesRight
+returns c = cc
+
+pub types-right-spec : {M : Type 1} → statement M
+types-right-spec =
+    tie.close (tie.spec type-right-requires type-right-requires-2 type-right-requires-3 returns)

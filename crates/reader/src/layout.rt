@@ -1,0 +1,160 @@
+// The record of a set's bytes, whether or not they keep the rules.
+ghost use mathlib.Core.Path.{_≡_};
+ghost use Prim.Native.Nat.{_<_};
+ghost use Rattle.reader.specs.Layout.{timesOf, entryFrom, nodeOf, nodesOf, rowcountOf, rowPlace, rowFrom, rowOf, rowsOf, planOf};
+use blocks::byte_at;
+use blocks::number_at;
+use plan::NodeEntry;
+use plan::Plan;
+use plan::Row;
+use plan::Times;
+
+fn times_of(s: &[u8]) -> Times
+    ensures { λ r. ⌜ r ≡ timesOf (now (s .entry)) ⌝ }
+{
+    Times {
+        window: number_at(s, 6),
+        stop: number_at(s, 8),
+        sleep: number_at(s, 10),
+        quiet: number_at(s, 12),
+        recovery: number_at(s, 14),
+        space: number_at(s, 16),
+        start: number_at(s, 18),
+    }
+}
+
+fn entry_from(s: &[u8], k: usize) -> NodeEntry
+    requires { ⌜ k < 16 ⌝ }
+    ensures { λ r. ⌜ r ≡ entryFrom (now (s .entry)) k ⌝ }
+{
+    NodeEntry {
+        address: byte_at(s, 32 + 4 * k),
+        class: byte_at(s, 33 + 4 * k),
+        method: byte_at(s, 34 + 4 * k),
+        reserved: byte_at(s, 35 + 4 * k),
+    }
+}
+
+fn node_of(s: &[u8], count: usize, k: usize) -> NodeEntry
+    requires { ⌜ k < 16 ⌝ }
+    ensures { λ r. ⌜ r ≡ nodeOf (now (s .entry)) count k ⌝ }
+{
+    if k < count {
+        entry_from(s, k)
+    } else {
+        NodeEntry {
+            address: 0,
+            class: 0,
+            method: 0,
+            reserved: 0,
+        }
+    }
+}
+
+fn nodes_of(s: &[u8], count: usize) -> [NodeEntry; 16]
+    ensures { λ r. ⌜ r ≡ nodesOf (now (s .entry)) count ⌝ }
+{
+    let zero = NodeEntry {
+        address: 0,
+        class: 0,
+        method: 0,
+        reserved: 0,
+    };
+    let mut nodes = [zero; 16];
+    let mut k: usize = 0;
+    while k < 16 {
+        nodes[k] = node_of(s, count, k);
+        k += 1;
+    }
+    nodes
+}
+
+fn rowcount_of(s: &[u8]) -> u16
+    ensures { λ r. ⌜ r ≡ rowcountOf (now (s .entry)) ⌝ }
+{
+    if s.len() == 1024 {
+        byte_at(s, 516) as u16
+    } else {
+        100 + byte_at(s, 1028) as u16
+    }
+}
+
+fn row_place(j: usize) -> usize
+    requires { ⌜ j < 127 ⌝ }
+    ensures { λ r. ⌜ (r ≡ rowPlace j) × (r < 4096) ⌝ }
+{
+    if j < 100 { 520 + 4 * j } else { 632 + 4 * j }
+}
+
+// One test for four bytes, since this is done 127 times.
+fn row_from(s: &[u8], o: usize) -> Row
+    requires { ⌜ o < 4096 ⌝ }
+    ensures { λ r. ⌜ r ≡ rowFrom (now (s .entry)) o ⌝ }
+{
+    if o + 3 < s.len() {
+        return Row {
+            reqid: s[o],
+            publisher: s[o + 1],
+            length: s[o + 2],
+            kind: s[o + 3],
+        };
+    }
+    Row {
+        reqid: byte_at(s, o),
+        publisher: byte_at(s, o + 1),
+        length: byte_at(s, o + 2),
+        kind: byte_at(s, o + 3),
+    }
+}
+
+fn row_of(s: &[u8], count: usize, j: usize) -> Row
+    requires { ⌜ j < 127 ⌝ }
+    ensures { λ r. ⌜ r ≡ rowOf (now (s .entry)) count j ⌝ }
+{
+    if j < count {
+        row_from(s, row_place(j))
+    } else {
+        Row {
+            reqid: 0,
+            publisher: 0,
+            length: 0,
+            kind: 0,
+        }
+    }
+}
+
+fn rows_of(s: &[u8], count: usize) -> [Row; 127]
+    ensures { λ r. ⌜ r ≡ rowsOf (now (s .entry)) count ⌝ }
+{
+    let zero = Row {
+        reqid: 0,
+        publisher: 0,
+        length: 0,
+        kind: 0,
+    };
+    let mut rows = [zero; 127];
+    let mut j: usize = 0;
+    while j < 127 {
+        rows[j] = row_of(s, count, j);
+        j += 1;
+    }
+    rows
+}
+
+pub(crate) fn plan_of(s: &[u8]) -> Plan
+    ensures { λ r. ⌜ r ≡ planOf (now (s .entry)) ⌝ }
+{
+    let nodecount = byte_at(s, 4);
+    let rowcount = rowcount_of(s);
+    let times = times_of(s);
+    let nodes = nodes_of(s, nodecount as usize);
+    let rows = rows_of(s, rowcount as usize);
+    Plan {
+        revision: number_at(s, 2),
+        nodecount,
+        times,
+        nodes,
+        rowcount,
+        rows,
+    }
+}

@@ -1,0 +1,11 @@
+pub mod BlockRuns
+pub mod Checks
+pub mod Kept
+pub mod Lengths
+pub mod ReadBack
+pub mod Refusals
+pub mod RoundTrip
+pub mod Runs
+pub mod SetBytes
+pub mod Unused
+pub mod WriteBack

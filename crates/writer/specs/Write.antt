@@ -1,0 +1,87 @@
+-- The bytes of a plan's set, and what the writer answers and leaves in a buffer.
+use Prim.Native.Nat.{ℕ, _+_, _*_, _-_, _/_, _%_, min}
+use mathlib.Core.List.{List, [], _∷_, _++_}
+use lib.ListN.{length, getD, set, drop, replicate}
+use lib.Dec.{leb, ltb, eqb}
+use Rattle.folds.specs.Fold.{pick, tab}
+use Rattle.blocks.specs.Bytes.{highByte, lowByte}
+use Rattle.blocks.specs.Check.{blockCheck}
+use Rattle.plan.specs.declared.NodeEntry.{NodeEntry}
+use Rattle.plan.specs.declared.Row.{Row}
+use Rattle.plan.specs.declared.Plan.{Plan}
+use Rattle.plan.specs.Record.{entryAt, rowAt}
+use Rattle.plan.specs.Rules.{planRefusal}
+use Rattle.writer.specs.declared.WriteAnswer.{WriteAnswer}
+
+-- "Numbers are big-endian"
+abbrev pub twoBytes : ℕ → List ℕ
+twoBytes x = highByte x ∷ lowByte x ∷ []
+
+-- the first 32 bytes of the plan block: "0 = 50 hex; 1 = 1; 2-3 revision ..; 4 = N ..; 6-19 seven times"
+unfoldable pub planHead : Plan → List ℕ
+planHead p =
+    0x50 ∷ 1 ∷ twoBytes (p .revision) ++ p .nodecount ∷ 0 ∷ twoBytes (p .times .window) ++ twoBytes (p .times .stop) ++ twoBytes (p .times .sleep)
+    ++ twoBytes (p .times .quiet) ++ twoBytes (p .times .recovery) ++ twoBytes (p .times .space) ++ twoBytes (p .times .start) ++ replicate 12 0
+
+abbrev pub entryBytes : NodeEntry → List ℕ
+entryBytes e = e .address ∷ e .class ∷ e .method ∷ e .reserved ∷ []
+
+-- byte o of the plan block, its check left 0: "From 32, N entries of 4 bytes"
+unfoldable pub planByte : Plan → ℕ → ℕ
+planByte p o =
+    pick (ltb o 32) (getD (planHead p) o 0)
+    (pick (ltb o (32 + 4 * p .nodecount)) (getD (entryBytes (entryAt (p .nodes) ((o - 32) / 4))) ((o - 32) % 4) 0)
+    0)
+
+-- rows in message block b, 1 or 2: "1 to 100, exactly 100 in the first of two"
+unfoldable pub rowsIn : ℕ → ℕ → ℕ
+rowsIn rowcount b = pick (eqb b 1) (min rowcount 100) (rowcount - 100)
+
+-- the first 8 bytes of a message block: "0 = 4D hex; 1 = 1; 2-3 the plan's revision; 4 = rows"
+unfoldable pub messageHead : ℕ → ℕ → List ℕ
+messageHead revision rows = 0x4d ∷ 1 ∷ twoBytes revision ++ rows ∷ 0 ∷ 0 ∷ 0 ∷ []
+
+abbrev pub rowBytes : Row → List ℕ
+rowBytes r = r .reqid ∷ r .publisher ∷ r .length ∷ r .kind ∷ []
+
+-- byte o of message block b, its check left 0: "from 8, rows of 4 bytes"
+unfoldable pub messageByte : Plan → ℕ → ℕ → ℕ
+messageByte p b o =
+    pick (ltb o 8) (getD (messageHead (p .revision) (rowsIn (p .rowcount) b)) o 0)
+    (pick (ltb o (8 + 4 * rowsIn (p .rowcount) b)) (getD (rowBytes (rowAt (p .rows) (100 * (b - 1) + (o - 8) / 4))) ((o - 8) % 4) 0)
+    0)
+
+-- byte o of the set, checks left 0: "512-byte blocks: one plan block, then one or two message blocks"
+unfoldable pub dataByte : Plan → ℕ → ℕ
+dataByte p o = pick (ltb o 512) (planByte p o) (messageByte p (o / 512) (o % 512))
+
+-- 1 to 100 rows make one message block, more make two
+unfoldable pub setLength : ℕ → ℕ
+setLength rowcount = pick (leb rowcount 100) 1024 1536
+
+-- "Bytes 510 and 511 hold the check", that of block b
+unfoldable pub withCheck : List ℕ → ℕ → List ℕ
+withCheck s b =
+    set (set s (512 * b + 510) (highByte (blockCheck s (512 * b)))) (512 * b + 511) (lowByte (blockCheck s (512 * b)))
+
+unfoldable pub withChecks : ℕ → List ℕ → List ℕ
+withChecks rowcount s =
+    pick (leb rowcount 100) (withCheck (withCheck s 0) 1) (withCheck (withCheck (withCheck s 0) 1) 2)
+
+-- the set of a plan
+unfoldable pub writeSet : Plan → List ℕ
+writeSet p = withChecks (p .rowcount) (tab (setLength (p .rowcount)) (dataByte p))
+
+-- "The writer checks 4 to 8, then 10", the buffer having so many bytes
+unfoldable pub writeRefusal : Plan → ℕ → ℕ
+writeRefusal p room = pick (eqb (planRefusal p) 0) (pick (ltb room (setLength (p .rowcount))) 10 0) (planRefusal p)
+
+-- "returns the set's length"; 0 where it is refused
+unfoldable pub writeAnswer : Plan → ℕ → WriteAnswer
+writeAnswer p room =
+    pick (eqb (writeRefusal p room) 0) (record { refusal = 0; length = setLength (p .rowcount) }) (record { refusal = writeRefusal p room; length = 0 })
+
+-- the buffer at exit: "leaves bytes past the set as they were"; "a refused write leaves the buffer untouched"
+unfoldable pub written : Plan → List ℕ → List ℕ
+written p buffer =
+    pick (eqb (writeRefusal p (length buffer)) 0) (writeSet p ++ drop (setLength (p .rowcount)) buffer) buffer
