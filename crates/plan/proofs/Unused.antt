@@ -6,7 +6,7 @@ use mathlib.Core.Bool.{Bool, true, false, _&&_, not, and-false}
 use lib.Dec.{leb, eqb}
 use native.Mathlib.Omega.{arith}
 use borrow.Author.Tests.{lt-ltb, leb-true}
-use Rattle.folds.specs.Fold.{allTo, pick}
+use Rattle.folds.specs.Fold.{pick}
 use Rattle.folds.specs.FirstBroken.{firstBroken}
 use Rattle.folds.proofs.AllAny.{all-ext, any-ext}
 use Rattle.folds.proofs.Tables.{getD-tab}

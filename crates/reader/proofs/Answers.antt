@@ -1,14 +1,13 @@
 -- The reader's answer by what its two judgements give.
-use Prim.Native.Nat.{ℕ, _<_}
+use Prim.Native.Nat.{ℕ}
 use mathlib.Core.Path.{_≡_, sym, _∙_}
-use mathlib.Core.List.{List, _++_}
-use mathlib.Core.Bool.{Bool, true}
+use mathlib.Core.List.{List}
+use mathlib.Core.Bool.{true}
 use native.Mathlib.Omega.{arith}
-use borrow.Author.Tests.{eq-eqb, ne-eqb}
+use borrow.Author.Tests.{ne-eqb}
 use Rattle.folds.specs.FirstBroken.{firstBroken}
 use Rattle.folds.proofs.Rules.{front-number, rest-number, none-only}
 use Rattle.plan.specs.declared.Plan.{Plan}
-use Rattle.reader.specs.declared.ReadAnswer.{ReadAnswer}
 use Rattle.reader.specs.Layout.{planOf}
 use Rattle.reader.specs.Rules.{lengthRight, shapeRules, contentRules}
 use Rattle.reader.specs.Read.{setRefusal, refused, readSet}

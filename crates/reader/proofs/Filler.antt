@@ -36,9 +36,10 @@ module _ (s : List ℕ) where
   unfolding fillerAt named
   in-plan o h = rw (lt-ltb o 512 h)
 
-  pub plan-runs : (a : ℕ) → FillerStart 32 (byte s 4) a
-      → (allTo (isZero s 5) 1 && allTo (isZero s 20) 12 && allTo (isZero s a) (510 - a)) ≡ allTo (fillerAt s) 512
-  plan-runs a h =
+  -- three runs of zeros, between the named ranges
+  pub plan-runs : (a : ℕ) (x y z : Bool) → FillerStart 32 (byte s 4) a
+      → x ≡ allTo (isZero s 5) 1 → y ≡ allTo (isZero s 20) 12 → z ≡ allTo (isZero s a) (510 - a) → (x && y && z) ≡ allTo (fillerAt s) 512
+  plan-runs a x y z h u v w =
       let f = fillerAt s in
       let e1 : allTo f 5 ≡ true = sym (all-upto f 0 5 (omega arith) (λ i p q. in-plan i (omega arith) ∙ rw (lt-ltb i 5 q))) ∙ all-none f in
       let e2 : allTo f 6 ≡ (allTo f 5 && allTo (isZero s 5) 1) = zero-run-front s f 5 6 (omega arith) (λ i p q. in-plan i (omega arith)
@@ -52,7 +53,7 @@ module _ (s : List ℕ) where
       ∙ rw (le-ltb i 5 (omega arith), le-leb 6 i (omega arith), le-ltb i 20 (omega arith), le-leb 32 i (omega arith), le-ltb i (32 + 4 * byte s 4) (h .free i p q), lt-leb 510 i q)) in
       let e7 : allTo f 510 ≡ allTo f 512 = all-upto f 510 512 (omega arith) (λ i p q. in-plan i q
       ∙ rw (le-leb 510 i p, or-true)) in
-      sym (sym e7 ∙ rw (e6, ← e5, e4, ← e3, e2, e1))
+      rw (u, v, w) (sym (sym e7 ∙ rw (e6, ← e5, e4, ← e3, e2, e1)))
 
   module _ (b : ℕ) (first : 1 ≤ b) where
     in-message : (o : ℕ) → o < 512 → messageFillerAt s b o ≡ (messageNamed (byte s (512 * b + 4)) o || eqb (byte s (512 * b + o)) 0)
@@ -62,9 +63,10 @@ module _ (s : List ℕ) where
         let y : (512 * b + o) % 512 ≡ o = omega arith in
         rw (le-ltb (512 * b + o) 512 (omega arith), x, y)
 
-    pub message-runs : (a : ℕ) → FillerStart 8 (byte s (512 * b + 4)) a
-        → (allTo (isZero s (512 * b + 5)) 3 && allTo (isZero s (512 * b + a)) (510 - a)) ≡ allTo (messageFillerAt s b) 512
-    message-runs a h =
+    -- two runs
+    pub message-runs : (a : ℕ) (x y : Bool) → FillerStart 8 (byte s (512 * b + 4)) a
+        → x ≡ allTo (isZero s (512 * b + 5)) 3 → y ≡ allTo (isZero s (512 * b + a)) (510 - a) → (x && y) ≡ allTo (messageFillerAt s b) 512
+    message-runs a x y h u v =
         let f = messageFillerAt s b in
         let e1 : allTo f 5 ≡ true = sym (all-upto f 0 5 (omega arith) (λ i p q. in-message i (omega arith) ∙ rw (lt-ltb i 5 q))) ∙ all-none f in
         let e2 : allTo f 8 ≡ (allTo f 5 && allTo (isZero s (512 * b + 5)) 3) = zero-run s f (512 * b) 5 8 (omega arith) (λ i p q. in-message i (omega arith)
@@ -74,7 +76,7 @@ module _ (s : List ℕ) where
         let e4 : allTo f 510 ≡ (allTo f a && allTo (isZero s (512 * b + a)) (510 - a)) = zero-run s f (512 * b) a 510 (h .high) (λ i p q. in-message i (omega arith)
         ∙ rw (le-ltb i 5 (omega arith), le-leb 8 i (omega arith), le-ltb i (8 + 4 * byte s (512 * b + 4)) (h .free i p q), lt-leb 510 i q)) in
         let e5 : allTo f 510 ≡ allTo f 512 = all-upto f 510 512 (omega arith) (λ i p q. in-message i q ∙ rw (le-leb 510 i p, or-true)) in
-        sym (sym e5 ∙ rw (e4, ← e3, e2, e1))
+        rw (u, v) (sym (sym e5 ∙ rw (e4, ← e3, e2, e1)))
 
   pub filler-short : length s ≡ 1024 → fillerRight s ≡ (allTo (fillerAt s) 512 && allTo (messageFillerAt s 1) 512)
   unfolding fillerRight

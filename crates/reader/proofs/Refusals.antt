@@ -7,7 +7,6 @@ use lib.ListN.{getD}
 use lib.Dec.{eqb}
 use native.Mathlib.Omega.{arith}
 use borrow.Author.Tests.{eqb-true}
-use Rattle.folds.specs.Fold.{pick}
 use Rattle.folds.proofs.Rules.{BrokenAt, number-only, number-given, none-only, none-given}
 use Rattle.plan.specs.Rules.{revisionRight}
 use Rattle.reader.specs.Layout.{planOf}

@@ -5,7 +5,6 @@ use mathlib.Core.Bool.{Bool}
 use lib.Dec.{eqb}
 use Rattle.folds.specs.Fold.{pick}
 use Rattle.folds.specs.FirstBroken.{firstBroken}
-use Rattle.plan.specs.declared.Plan.{Plan}
 use Rattle.plan.specs.Record.{zeroPlan}
 use Rattle.reader.specs.declared.ReadAnswer.{ReadAnswer}
 use Rattle.reader.specs.Layout.{planOf}

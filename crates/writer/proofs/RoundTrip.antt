@@ -1,25 +1,21 @@
 -- Reading what was written, and writing what was read, over the definitions that `read` and `write` promise.
-use Prim.Native.Nat.{ℕ, _≤_, _<_}
-use mathlib.Core.Path.{_≡_, refl, ap, sym, _∙_}
-use mathlib.Core.List.{List, _++_}
-use mathlib.Core.Bool.{true}
+use Prim.Native.Nat.{ℕ, _<_}
+use mathlib.Core.Path.{_≡_, sym, _∙_}
+use mathlib.Core.List.{List}
 use lib.ListN.{length, take, drop}
 use lib.Seq.{take-at}
-use Rattle.folds.specs.FirstBroken.{firstBroken}
 use Rattle.blocks.specs.Bytes.{byte}
 use Rattle.plan.specs.declared.Plan.{Plan}
 use Rattle.plan.specs.Record.{unusedZero}
 use Rattle.plan.specs.Rules.{planRefusal}
 use Rattle.plan.proofs.Accepted.{accepted, nodes-few, rows-few, rows-some}
 use Rattle.plan.proofs.Unused.{unused-refusal}
-use Rattle.reader.specs.Layout.{planOf}
 use Rattle.reader.specs.Read.{setRefusal, readSet}
-use Rattle.reader.proofs.Accepted.{AcceptedSet, accepted-set}
+use Rattle.reader.proofs.Accepted.{accepted-set}
 use Rattle.reader.proofs.Refusals.{answer-number}
 use Rattle.writer.specs.Write.{setLength, writeSet, writeRefusal, writeAnswer, written}
 use Rattle.writer.proofs.Kept.{length-kept, checks-kept, types-kept, revisions-kept, counts-kept, filler-kept}
 use Rattle.writer.proofs.ReadBack.{plan-back}
-use Rattle.writer.proofs.Refusals.{room, room-given}
 use Rattle.writer.proofs.SetBytes.{set-long}
 use Rattle.writer.proofs.WriteBack.{same-set}
 

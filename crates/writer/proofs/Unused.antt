@@ -1,14 +1,14 @@
 -- "The writer ignores unused places of its record".
 use Prim.Native.Nat.{ℕ, _+_, _*_, _-_, _/_, _%_, _≤_, _<_, min}
-use mathlib.Core.Path.{_≡_, refl, ap, sym, _∙_}
+use mathlib.Core.Path.{_≡_, refl, ap}
 use mathlib.Core.List.{List, _++_}
 use mathlib.Core.Bool.{Bool, true, false}
 use lib.ListN.{length, getD, drop}
-use lib.Dec.{ltb, eqb}
+use lib.Dec.{eqb}
 use native.Mathlib.Omega.{arith}
 use native.Mathlib.Decide.{decLt}
-use borrow.Author.Tests.{ltb-true, ltb-false, lt-ltb, le-ltb, eqb-true, eqb-false}
-use Rattle.folds.specs.Fold.{pick, tab}
+use borrow.Author.Tests.{lt-ltb, le-ltb, eqb-true, eqb-false}
+use Rattle.folds.specs.Fold.{pick}
 use Rattle.folds.proofs.Tables.{tab-ext}
 use Rattle.plan.specs.declared.NodeEntry.{NodeEntry}
 use Rattle.plan.specs.declared.Row.{Row}
@@ -17,7 +17,7 @@ use Rattle.plan.specs.Record.{unusedZero}
 use Rattle.plan.specs.Rules.{planRefusal}
 use Rattle.plan.proofs.Accepted.{accepted, nodes-few, rows-few}
 use Rattle.plan.proofs.Unused.{entry-same, row-same, unused-refusal}
-use Rattle.writer.specs.Write.{planHead, entryBytes, planByte, rowsIn, messageHead, rowBytes, messageByte, dataByte, setLength, withChecks, writeSet, writeRefusal, written}
+use Rattle.writer.specs.Write.{planHead, entryBytes, planByte, rowsIn, rowBytes, messageByte, dataByte, setLength, withChecks, writeSet, writeRefusal, written}
 use Rattle.writer.proofs.Lengths.{length-least}
 use Rattle.writer.proofs.Refusals.{room}
 

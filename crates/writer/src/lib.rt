@@ -16,9 +16,9 @@ pub struct WriteAnswer {
 fn write_refusal(p: Plan, room: usize) -> u8
     ensures { λ r. ⌜ r ≡ writeRefusal p room ⌝ }
 {
-    let refusal = plan_refusal(p);
-    if refusal != 0 {
-        return refusal;
+    let broken = plan_refusal(p);
+    if broken != 0 {
+        return broken;
     }
     if room < set_blocks::set_length(p.rowcount) {
         return 10;

@@ -1,5 +1,5 @@
 -- Each byte so far is stored; what lies past the end changes nothing. Assumes nothing.
-use Prim.Native.Nat.{_-_, _≤_, _+_, _<_}
+use Prim.Native.Nat.{_-_, _≤_}
 use mathlib.Core.Path.{_≡_, refl, ap, _∙_}
 use native.Mathlib.Omega.{arith}
 use lib.ListN.{length, take, length-set}

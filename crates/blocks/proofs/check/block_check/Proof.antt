@@ -1,5 +1,5 @@
 -- The sum so far is that of the definition; past the end nothing is added. Assumes nothing.
-use Prim.Native.Nat.{_+_, _*_, _-_, _%_, _≤_}
+use Prim.Native.Nat.{_*_, _-_, _%_, _≤_}
 use mathlib.Core.Path.{_≡_, ap, _∙_}
 use native.Mathlib.Omega.{arith}
 use lib.ListN.{List·getD-eq-default}
@@ -20,7 +20,7 @@ reach-requires : tie.Need-reach-requires Inv-loop μ-loop
 reach-requires c κs = search needs
 
 loop-holds : tie.Need-loop-holds Inv-loop μ-loop
-loop-holds c = (search needs, c .reach .ensures .most, search (needs, sum-none), search needs)
+loop-holds c = (search needs, omega (arith, c .reach .ensures .most), search (needs, sum-none), search needs)
 
 add-weighted : tie.Need-add-weighted Inv-loop μ-loop
 add-weighted c = omega (arith, c .before .before .reach .ensures .inside (c .before .loop .i) (omega arith))
@@ -52,8 +52,8 @@ returns c =
     let a = c .before .before .before .before .args in
     let e : c .before .loop .i ≡ c .before .before .reach .result = omega arith in
     ap (λ x. x % 65521) (c .before .loop .inv .2 ∙ ap (sumTo (weight (a .bytes .now) (a .start))) e
-    ∙ sum-upto _ _ 510 (c .before .before .reach .ensures .most)
-    (λ i p q. rw (List·getD-eq-default (a .bytes .now) 0 (c .before .before .reach .ensures .outside i p q)) (omega arith)))
+    ∙ sum-upto _ _ 510 (omega (arith, c .before .before .reach .ensures .most))
+    (λ i p q. rw (List·getD-eq-default (a .bytes .now) 0 (c .before .before .reach .ensures .outside i p (omega arith))) (omega arith)))
 
 pub block-check-spec : {M : Type 1} → statement M
 block-check-spec =

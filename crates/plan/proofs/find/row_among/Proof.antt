@@ -1,6 +1,6 @@
 -- No row so far has the ReqId. Assumes nothing.
 use Prim.Native.Nat.{_-_, _≤_}
-use mathlib.Core.Path.{_≡_, sym, ap, _∙_}
+use mathlib.Core.Path.{_≡_, sym}
 use native.Mathlib.Omega.{arith}
 use Rattle.plan.specs.declared.Lookup.{Lookup}
 use Rattle.plan.specs.Find.{rowAmong}

@@ -1,4 +1,6 @@
 -- By what each test ensures. Assumes nothing.
+use mathlib.Core.Path.{refl, ap₂}
+use mathlib.Core.Bool.{_&&_}
 use Rattle.plan.specs.Rules.{timesRight}
 use borrow.Author.Needs.{needs}
 use Rattle.plan.proofs.rules.times_right.Statement.{statement}
@@ -27,7 +29,7 @@ in-range-requires-7 c κs = search needs
 
 returns : tie.Need-returns
 unfolding timesRight
-returns c = cc
+returns c = ap₂ _&&_ (ap₂ _&&_ (ap₂ _&&_ (ap₂ _&&_ (ap₂ _&&_ (ap₂ _&&_ (ap₂ _&&_ (c .before .before .before .before .before .before .before .in-range .ensures) (c .before .before .before .before .before .before .in-range2 .ensures)) (c .before .before .before .before .before .in-range3 .ensures)) (c .before .before .before .before .in-range4 .ensures)) (c .before .before .before .in-range5 .ensures)) (c .before .before .in-range6 .ensures)) (c .before .in-range7 .ensures)) (refl)
 
 pub times-right-spec : {M : Type 1} → statement M
 times-right-spec =

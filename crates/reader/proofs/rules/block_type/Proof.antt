@@ -1,7 +1,6 @@
 -- By the test. Assumes nothing.
 use borrow.Author.Tests.{eq-eqb, ne-eqb}
 use Rattle.reader.specs.Rules.{blockType}
-use borrow.Author.Needs.{needs}
 use Rattle.reader.proofs.rules.block_type.Statement.{statement}
 use Rattle.reader.proofs.rules.block_type.Tie as tie
 

@@ -1,6 +1,5 @@
 -- By the tests, in their order. Assumes nothing.
 use mathlib.Core.Path.{sym, _∙_}
-use mathlib.Core.Bool.{or-true}
 use borrow.Author.Tests.{eq-eqb, ne-eqb, not-true, not-false}
 use Rattle.reader.specs.Rules.{checksRight}
 use borrow.Author.Needs.{needs}

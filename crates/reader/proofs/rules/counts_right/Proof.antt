@@ -1,4 +1,9 @@
--- By computation. Assumes nothing.
+-- By what the calls ensure. Assumes nothing.
+use mathlib.Core.Path.{ap, ap₂, _∙_}
+use mathlib.Core.Bool.{_&&_, _||_}
+use lib.Dec.{eqb}
+use Rattle.plan.specs.Rules.{inRange}
+use Rattle.reader.specs.Layout.{oneMessageBlock}
 use Rattle.reader.specs.Rules.{countsRight}
 use borrow.Author.Needs.{needs}
 use Rattle.reader.proofs.rules.counts_right.Statement.{statement}
@@ -21,7 +26,10 @@ in-range-requires-2 c κs = search needs
 
 returns : tie.Need-returns
 unfolding countsRight
-returns c = cc
+returns c =
+    ap₂ _&&_ (c .before .before .before .in-range .ensures ∙ ap (inRange 1 100) (c .before .before .before .before .byte-at .ensures))
+    (ap (λ x. oneMessageBlock (c .before .before .before .before .before .before .args .s .now) || x)
+    (ap₂ _&&_ (ap (λ x. eqb x 100) (c .before .before .byte-at2 .ensures)) (c .in-range2 .ensures ∙ ap (inRange 1 100) (c .before .byte-at3 .ensures))))
 
 pub counts-right-spec : {M : Type 1} → statement M
 counts-right-spec =

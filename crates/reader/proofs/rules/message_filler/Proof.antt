@@ -1,6 +1,4 @@
 -- By ranges. Assumes nothing.
-use mathlib.Core.Path.{ap₂, _∙_}
-use mathlib.Core.Bool.{_&&_}
 use Rattle.reader.proofs.Filler.{message-runs}
 use borrow.Author.Needs.{needs}
 use Rattle.reader.proofs.rules.message_filler.Statement.{statement}
@@ -40,9 +38,7 @@ are-zero-requires-2 : tie.Need-are-zero-requires-2
 are-zero-requires-2 c κs = search needs
 
 returns : tie.Need-returns
-returns c =
-    ap₂ _&&_ (c .before .are-zero .ensures) (c .are-zero2 .ensures)
-    ∙ message-runs _ _ (search needs) _ (rw (c .before .before .before .byte-at .ensures) at (c .before .before .filler-start .ensures))
+returns c = message-runs _ _ (search needs) _ _ _ (rw (c .before .before .before .byte-at .ensures) at (c .before .before .filler-start .ensures)) (c .before .are-zero .ensures) (c .are-zero2 .ensures)
 
 pub message-filler-spec : {M : Type 1} → statement M
 message-filler-spec =

@@ -1,6 +1,4 @@
 -- By ranges. Assumes nothing.
-use mathlib.Core.Path.{ap₂, _∙_}
-use mathlib.Core.Bool.{_&&_}
 use Rattle.reader.proofs.Filler.{plan-runs}
 use borrow.Author.Needs.{needs}
 use Rattle.reader.proofs.rules.plan_filler.Statement.{statement}
@@ -25,9 +23,7 @@ are-zero-requires-3 : tie.Need-are-zero-requires-3
 are-zero-requires-3 c κs = search needs
 
 returns : tie.Need-returns
-returns c =
-    ap₂ _&&_ (ap₂ _&&_ (c .before .before .are-zero .ensures) (c .before .are-zero2 .ensures)) (c .are-zero3 .ensures)
-    ∙ plan-runs _ _ (rw (c .before .before .before .before .byte-at .ensures) at (c .before .before .before .filler-start .ensures))
+returns c = plan-runs _ _ _ _ _ (rw (c .before .before .before .before .byte-at .ensures) at (c .before .before .before .filler-start .ensures)) (c .before .before .are-zero .ensures) (c .before .are-zero2 .ensures) (c .are-zero3 .ensures)
 
 pub plan-filler-spec : {M : Type 1} → statement M
 plan-filler-spec =

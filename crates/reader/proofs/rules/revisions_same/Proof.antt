@@ -1,4 +1,7 @@
--- By computation. Assumes nothing.
+-- Block by block. Assumes nothing.
+use mathlib.Core.Path.{ap, ap₂}
+use mathlib.Core.Bool.{_&&_, _||_}
+use Rattle.reader.specs.Layout.{oneMessageBlock}
 use Rattle.reader.specs.Rules.{revisionsSame}
 use borrow.Author.Needs.{needs}
 use Rattle.reader.proofs.rules.revisions_same.Statement.{statement}
@@ -15,7 +18,8 @@ revision-same-requires-3 c κs = search needs
 
 returns : tie.Need-returns
 unfolding revisionsSame
-returns c = cc
+returns c =
+    ap₂ _&&_ (ap₂ _&&_ (c .before .before .revision-same .ensures) (c .before .revision-same2 .ensures)) (ap (λ x. oneMessageBlock (c .before .before .before .before .args .s .now) || x) (c .revision-same3 .ensures))
 
 pub revisions-same-spec : {M : Type 1} → statement M
 revisions-same-spec =

@@ -1,4 +1,7 @@
--- By computation. Assumes nothing.
+-- Block by block. Assumes nothing.
+use mathlib.Core.Path.{ap, ap₂}
+use mathlib.Core.Bool.{_&&_, _||_}
+use Rattle.reader.specs.Layout.{oneMessageBlock}
 use Rattle.reader.specs.Rules.{typesRight}
 use borrow.Author.Needs.{needs}
 use Rattle.reader.proofs.rules.types_right.Statement.{statement}
@@ -15,7 +18,8 @@ type-right-requires-3 c κs = search needs
 
 returns : tie.Need-returns
 unfolding typesRight
-returns c = cc
+returns c =
+    ap₂ _&&_ (ap₂ _&&_ (c .before .before .type-right .ensures) (c .before .type-right2 .ensures)) (ap (λ x. oneMessageBlock (c .before .before .before .before .args .s .now) || x) (c .type-right3 .ensures))
 
 pub types-right-spec : {M : Type 1} → statement M
 types-right-spec =

@@ -1,0 +1,15 @@
+-- Every edge holds, by computation.
+use mathlib.Core.Path.{refl}
+use Rattle.folds.specs.Fold.{sumTo, allTo, anyTo, tab}
+use Rattle.blocks.specs.Check.{blockCheck}
+use Rattle.plan.specs.Record.{zeroPlan}
+use Rattle.plan.specs.Rules.{timesRight, entryRight, differs, nodeRight, nodesRight, reqidBefore, rowAfter, rowRight, rowsRight, isFrom, publishes, allPublish}
+use Rattle.reader.specs.Layout.{timesOf, entryFrom, nodeOf, nodesOf, rowcountOf, rowPlace, rowFrom, rowOf, rowsOf, planOf}
+use Rattle.reader.specs.Rules.{lengthRight, checkRight, checksRight, blockType, typeRight, typesRight, revisionSame, revisionsSame, countsRight, named, fillerAt, fillerRight}
+use Rattle.reader.specs.Read.{setRefusal, readSet}
+use Rattle.writer.specs.Write.{withCheck}
+use Rattle.edges.specs.Edges.{AllHold, edges}
+
+pub edges-hold : AllHold edges
+unfolding readSet setRefusal zeroPlan planOf timesOf entryFrom nodeOf nodesOf rowcountOf rowPlace rowFrom rowOf rowsOf lengthRight checkRight checksRight blockType typeRight typesRight revisionSame revisionsSame countsRight named fillerAt fillerRight timesRight entryRight differs nodeRight nodesRight reqidBefore rowAfter rowRight rowsRight isFrom publishes allPublish withCheck blockCheck sumTo allTo anyTo tab
+edges-hold = (refl, (refl, (refl, (refl, (refl, tt)))))

@@ -1,0 +1,81 @@
+-- The words for a set.
+use Prim.Native.Nat.{ℕ, zero, suc, min}
+use mathlib.Core.Path.{_≡_}
+use mathlib.Core.List.{List, [], _++_}
+use lib.Dec.{eqb}
+use lib.ListN.{length}
+use lib.Seq.{sets}
+use Rattle.folds.specs.Fold.{pick}
+use Rattle.plan.specs.declared.NodeEntry.{NodeEntry}
+use Rattle.plan.specs.declared.Row.{Row}
+use Rattle.plan.specs.declared.Times.{Times}
+use Rattle.plan.specs.declared.Plan.{Plan}
+use Rattle.plan.specs.Record.{entryAt, rowAt}
+use Rattle.reader.specs.declared.ReadAnswer.{ReadAnswer}
+use Rattle.text.specs.Text.{ascii, decimal, hexByte}
+
+unfoldable pub timeLine : List ℕ → ℕ → List ℕ
+timeLine label ticks = label ++ ascii ", ticks: " ++ decimal ticks ++ ascii "\n"
+
+unfoldable pub timesText : Times → List ℕ
+timesText t =
+    timeLine (ascii "W window") (t .window) ++ timeLine (ascii "D clock stop") (t .stop) ++ timeLine (ascii "S node sleep") (t .sleep)
+    ++ timeLine (ascii "E quiet limit") (t .quiet) ++ timeLine (ascii "R wake-up recovery") (t .recovery)
+    ++ timeLine (ascii "P wake-up space") (t .space) ++ timeLine (ascii "C clock start") (t .start)
+
+unfoldable pub methodText : ℕ → List ℕ
+methodText method = pick (eqb method 0) (ascii "event-triggered") (ascii "polled")
+
+unfoldable pub nodeLine : ℕ → NodeEntry → List ℕ
+nodeLine k e =
+    ascii "node " ++ decimal k ++ ascii ": address " ++ hexByte (e .address) ++ ascii " hex, diagnostic class " ++ decimal (e .class)
+    ++ ascii ", " ++ methodText (e .method) ++ ascii "\n"
+
+-- the first n nodes
+unfoldable pub nodesText : List NodeEntry → ℕ → List ℕ
+nodesText nodes zero = []
+nodesText nodes (suc n) = nodesText nodes n ++ nodeLine n (entryAt nodes n)
+
+unfoldable pub publisherText : ℕ → List ℕ
+publisherText publisher = pick (eqb publisher 255) (ascii "master") (ascii "node " ++ decimal publisher)
+
+unfoldable pub countText : ℕ → List ℕ
+countText kind = pick (eqb kind 0) (ascii "without sequence count") (ascii "with sequence count")
+
+unfoldable pub rowLine : Row → List ℕ
+rowLine r =
+    ascii "ReqId " ++ decimal (r .reqid) ++ ascii ": publisher " ++ publisherText (r .publisher) ++ ascii ", length " ++ decimal (r .length)
+    ++ ascii ", " ++ countText (r .kind) ++ ascii "\n"
+
+-- the first n rows
+unfoldable pub rowsText : List Row → ℕ → List ℕ
+rowsText rows zero = []
+rowsText rows (suc n) = rowsText rows n ++ rowLine (rowAt rows n)
+
+unfoldable pub planText : Plan → List ℕ
+planText p =
+    ascii "revision " ++ decimal (p .revision) ++ ascii "\n" ++ timesText (p .times) ++ nodesText (p .nodes) (p .nodecount) ++ rowsText (p .rows) (p .rowcount)
+
+-- the refusal table's words for 1 to 9
+unfoldable pub ruleText : ℕ → List ℕ
+ruleText number =
+    pick (eqb number 1) (ascii "the length is not 1,024 or 1,536 bytes")
+    (pick (eqb number 2) (ascii "a block's check differs")
+    (pick (eqb number 3) (ascii "byte 0 or 1 of a block is wrong")
+    (pick (eqb number 4) (ascii "the revision is 0, or blocks differ in it")
+    (pick (eqb number 5) (ascii "a time breaks its rule")
+    (pick (eqb number 6) (ascii "the number of nodes or a node entry breaks its rule")
+    (pick (eqb number 7) (ascii "a row count or a row breaks its rule")
+    (pick (eqb number 8) (ascii "a node publishes nothing")
+    (ascii "filler is not zero"))))))))
+
+unfoldable pub refusalText : ℕ → List ℕ
+refusalText number = ascii "set " ++ decimal number ++ ascii "\n" ++ ruleText number ++ ascii "\n"
+
+unfoldable pub answerText : ReadAnswer → List ℕ
+answerText answer = pick (eqb (answer .refusal) 0) (planText (answer .plan)) (refusalText (answer .refusal))
+
+-- the text stands at the front of the buffer l, which is then l′, as far as there is room; r bytes of it do
+pub record Shown (text l l′ : List ℕ) (r : ℕ) : Type 0 where
+  pub count : r ≡ min (length text) (length l)
+  pub bytes : l′ ≡ sets l 0 text

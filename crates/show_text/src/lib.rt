@@ -1,0 +1,204 @@
+// A release set in words.
+ghost use Prim.Native.Nat.{_≤_};
+ghost use Rattle.text.specs.Text.{Appended, Counts};
+ghost use Rattle.reader.specs.Read.{readSet};
+ghost use Rattle.show_text.specs.Show.{timeLine, timesText, methodText, nodeLine, nodesText, publisherText, countText, rowLine, rowsText, planText, ruleText, refusalText, answerText, Shown};
+use plan::NodeEntry;
+use plan::Plan;
+use plan::Row;
+use plan::Times;
+use reader::ReadAnswer;
+use text::append;
+use text::append_decimal;
+use text::append_hex;
+use text::below;
+
+fn append_time(buffer: &mut [u8], at: usize, label: &[u8], ticks: u16) -> usize
+    ensures { λ r. ⌜ Appended at (timeLine (now (label .entry)) ticks) (now (buffer .entry)) (now (buffer .exit)) r ⌝ }
+{
+    let a = append(buffer, at, label);
+    let b = append(buffer, a, b", ticks: ");
+    let c = append_decimal(buffer, b, ticks as u64);
+    append(buffer, c, b"\n")
+}
+
+fn append_times(buffer: &mut [u8], at: usize, t: Times) -> usize
+    ensures { λ r. ⌜ Appended at (timesText t) (now (buffer .entry)) (now (buffer .exit)) r ⌝ }
+{
+    let a = append_time(buffer, at, b"W window", t.window);
+    let b = append_time(buffer, a, b"D clock stop", t.stop);
+    let c = append_time(buffer, b, b"S node sleep", t.sleep);
+    let d = append_time(buffer, c, b"E quiet limit", t.quiet);
+    let e = append_time(buffer, d, b"R wake-up recovery", t.recovery);
+    let f = append_time(buffer, e, b"P wake-up space", t.space);
+    append_time(buffer, f, b"C clock start", t.start)
+}
+
+fn append_method(buffer: &mut [u8], at: usize, method: u8) -> usize
+    ensures { λ r. ⌜ Appended at (methodText method) (now (buffer .entry)) (now (buffer .exit)) r ⌝ }
+{
+    if method == 0 {
+        append(buffer, at, b"event-triggered")
+    } else {
+        append(buffer, at, b"polled")
+    }
+}
+
+fn append_node(buffer: &mut [u8], at: usize, k: usize, e: NodeEntry) -> usize
+    ensures { λ r. ⌜ Appended at (nodeLine k e) (now (buffer .entry)) (now (buffer .exit)) r ⌝ }
+{
+    let a = append(buffer, at, b"node ");
+    let b = append_decimal(buffer, a, k as u64);
+    let c = append(buffer, b, b": address ");
+    let d = append_hex(buffer, c, e.address);
+    let f = append(buffer, d, b" hex, diagnostic class ");
+    let g = append_decimal(buffer, f, e.class as u64);
+    let h = append(buffer, g, b", ");
+    let i = append_method(buffer, h, e.method);
+    append(buffer, i, b"\n")
+}
+
+fn append_nodes(buffer: &mut [u8], at: usize, nodes: [NodeEntry; 16], count: usize) -> usize
+    requires { ⌜ count ≤ 16 ⌝ }
+    ensures { λ r. ⌜ Appended at (nodesText nodes count) (now (buffer .entry)) (now (buffer .exit)) r ⌝ }
+{
+    let mut k: usize = 0;
+    let mut next = at;
+    while k < count {
+        let e = nodes[k];
+        next = append_node(buffer, next, k, e);
+        k += 1;
+    }
+    next
+}
+
+fn append_publisher(buffer: &mut [u8], at: usize, publisher: u8) -> usize
+    ensures { λ r. ⌜ Appended at (publisherText publisher) (now (buffer .entry)) (now (buffer .exit)) r ⌝ }
+{
+    if publisher == 255 {
+        append(buffer, at, b"master")
+    } else {
+        let a = append(buffer, at, b"node ");
+        append_decimal(buffer, a, publisher as u64)
+    }
+}
+
+fn append_count(buffer: &mut [u8], at: usize, kind: u8) -> usize
+    ensures { λ r. ⌜ Appended at (countText kind) (now (buffer .entry)) (now (buffer .exit)) r ⌝ }
+{
+    if kind == 0 {
+        append(buffer, at, b"without sequence count")
+    } else {
+        append(buffer, at, b"with sequence count")
+    }
+}
+
+fn append_row(buffer: &mut [u8], at: usize, row: Row) -> usize
+    ensures { λ r. ⌜ Appended at (rowLine row) (now (buffer .entry)) (now (buffer .exit)) r ⌝ }
+{
+    let a = append(buffer, at, b"ReqId ");
+    let b = append_decimal(buffer, a, row.reqid as u64);
+    let c = append(buffer, b, b": publisher ");
+    let d = append_publisher(buffer, c, row.publisher);
+    let e = append(buffer, d, b", length ");
+    let f = append_decimal(buffer, e, row.length as u64);
+    let g = append(buffer, f, b", ");
+    let h = append_count(buffer, g, row.kind);
+    append(buffer, h, b"\n")
+}
+
+fn append_rows(buffer: &mut [u8], at: usize, rows: [Row; 127], count: usize) -> usize
+    requires { ⌜ count ≤ 127 ⌝ }
+    ensures { λ r. ⌜ Appended at (rowsText rows count) (now (buffer .entry)) (now (buffer .exit)) r ⌝ }
+{
+    let mut j: usize = 0;
+    let mut next = at;
+    while j < count {
+        let row = rows[j];
+        next = append_row(buffer, next, row);
+        j += 1;
+    }
+    next
+}
+
+fn append_plan(buffer: &mut [u8], at: usize, p: Plan) -> usize
+    requires { ⌜ (p .nodecount ≤ 16) × (p .rowcount ≤ 127) ⌝ }
+    ensures { λ r. ⌜ Appended at (planText p) (now (buffer .entry)) (now (buffer .exit)) r ⌝ }
+{
+    let times = p.times;
+    let nodes = p.nodes;
+    let rows = p.rows;
+    let a = append(buffer, at, b"revision ");
+    let b = append_decimal(buffer, a, p.revision as u64);
+    let c = append(buffer, b, b"\n");
+    let d = append_times(buffer, c, times);
+    let e = append_nodes(buffer, d, nodes, p.nodecount as usize);
+    append_rows(buffer, e, rows, p.rowcount as usize)
+}
+
+fn append_rule(buffer: &mut [u8], at: usize, number: u8) -> usize
+    ensures { λ r. ⌜ Appended at (ruleText number) (now (buffer .entry)) (now (buffer .exit)) r ⌝ }
+{
+    if number == 1 {
+        return append(buffer, at, b"the length is not 1,024 or 1,536 bytes");
+    }
+    if number == 2 {
+        return append(buffer, at, b"a block's check differs");
+    }
+    if number == 3 {
+        return append(buffer, at, b"byte 0 or 1 of a block is wrong");
+    }
+    if number == 4 {
+        return append(buffer, at, b"the revision is 0, or blocks differ in it");
+    }
+    if number == 5 {
+        return append(buffer, at, b"a time breaks its rule");
+    }
+    if number == 6 {
+        return append(
+            buffer,
+            at,
+            b"the number of nodes or a node entry breaks its rule",
+        );
+    }
+    if number == 7 {
+        return append(buffer, at, b"a row count or a row breaks its rule");
+    }
+    if number == 8 {
+        return append(buffer, at, b"a node publishes nothing");
+    }
+    append(buffer, at, b"filler is not zero")
+}
+
+fn append_refusal(buffer: &mut [u8], at: usize, number: u8) -> usize
+    ensures { λ r. ⌜ Appended at (refusalText number) (now (buffer .entry)) (now (buffer .exit)) r ⌝ }
+{
+    let a = append(buffer, at, b"set ");
+    let b = append_decimal(buffer, a, number as u64);
+    let c = append(buffer, b, b"\n");
+    let d = append_rule(buffer, c, number);
+    append(buffer, d, b"\n")
+}
+
+fn append_answer(buffer: &mut [u8], at: usize, answer: ReadAnswer) -> usize
+    requires { ⌜ (answer .plan .nodecount ≤ 16) × (answer .plan .rowcount ≤ 127) ⌝ }
+    ensures { λ r. ⌜ Appended at (answerText answer) (now (buffer .entry)) (now (buffer .exit)) r ⌝ }
+{
+    let refusal = answer.refusal;
+    let plan = answer.plan;
+    if refusal == 0 {
+        append_plan(buffer, at, plan)
+    } else {
+        append_refusal(buffer, at, refusal)
+    }
+}
+
+// Stores the words for a set's bytes at the front of a buffer, as far as it has room, and answers how many bytes they take there.
+pub fn show(bytes: &[u8], buffer: &mut [u8]) -> usize
+    ensures { λ r. ⌜ Shown (answerText (readSet (now (bytes .entry)))) (now (buffer .entry)) (now (buffer .exit)) r ⌝ }
+    ensures { λ r. ⌜ Counts r (now (buffer .exit)) ⌝ }
+{
+    let answer = reader::read(bytes);
+    let end = append_answer(buffer, 0, answer);
+    below(&buffer[..], end)
+}
