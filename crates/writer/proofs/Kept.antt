@@ -1,7 +1,7 @@
 -- A written set keeps the rules that only bytes show.
 use Prim.Native.Nat.{ℕ, zero, suc, _+_, _*_, _-_, _/_, _%_, _≤_, _<_, min}
 use mathlib.Core.Path.{_≡_, refl, ap, sym, _∙_}
-use mathlib.Core.List.{List, [], _∷_}
+use mathlib.Core.List.{List, [], _∷_, _++_}
 use mathlib.Core.Bool.{Bool, true, false, _||_, or-true}
 use mathlib.Core.Logic.{_⊎_, inl, inr, ⊎-elim}
 use lib.ListN.{length, getD, replicate, getD-replicate}
@@ -11,10 +11,10 @@ use native.Mathlib.Omega.{arith}
 use native.Mathlib.Decide.{decLt}
 use borrow.Author.Tests.{lt-ltb, le-ltb, le-leb, eq-eqb, ne-eqb, leb-true, leb-false}
 use Rattle.folds.proofs.AllAny.{all-intro}
-use Rattle.blocks.specs.Bytes.{byte, number, highByte, lowByte}
+use Rattle.blocks.specs.Bytes.{byte, number}
 use Rattle.plan.specs.declared.Plan.{Plan}
 use Rattle.reader.specs.Rules.{eachBlock, lengthRight, checkRight, checksRight, blockType, typeRight, typesRight, revisionSame, revisionsSame, countsRight, planNamed, messageNamed, named, fillerAt, fillerRight}
-use Rattle.writer.specs.Write.{planHead, rowsIn, messageHead, setLength, writeSet}
+use Rattle.writer.specs.Write.{twoBytes, planHead, rowsIn, messageHead, setLength, writeSet}
 use Rattle.writer.proofs.Lengths.{blockCount, length-short, length-long, length-blocks}
 use Rattle.writer.proofs.SetBytes.{set-long, set-check, head-byte, plan-filler, message-head, message-filler}
 use Rattle.writer.proofs.ReadBack.{nodecount-back}
@@ -89,7 +89,9 @@ module _ (p : Plan) (few-nodes : p .nodecount ≤ 16) (some : 1 ≤ p .rowcount)
   head-filler i h = head-byte p (20 + i) (omega arith) ∙ getD-append-add (front p) (replicate 12 0) i 0 ∙ getD-replicate 12 i 0 0 h
     where
       front : Plan → List ℕ
-      front q = 0x50 ∷ 1 ∷ highByte (q .revision) ∷ lowByte (q .revision) ∷ q .nodecount ∷ 0 ∷ highByte (q .times .window) ∷ lowByte (q .times .window) ∷ highByte (q .times .stop) ∷ lowByte (q .times .stop) ∷ highByte (q .times .sleep) ∷ lowByte (q .times .sleep) ∷ highByte (q .times .quiet) ∷ lowByte (q .times .quiet) ∷ highByte (q .times .recovery) ∷ lowByte (q .times .recovery) ∷ highByte (q .times .space) ∷ lowByte (q .times .space) ∷ highByte (q .times .start) ∷ lowByte (q .times .start) ∷ []
+      front q =
+          0x50 ∷ 1 ∷ twoBytes (q .revision) ++ q .nodecount ∷ 0 ∷ twoBytes (q .times .window) ++ twoBytes (q .times .stop) ++ twoBytes (q .times .sleep)
+          ++ twoBytes (q .times .quiet) ++ twoBytes (q .times .recovery) ++ twoBytes (q .times .space) ++ twoBytes (q .times .start)
 
   -- a byte that has no name is 0
   zero-byte : (s : List ℕ) (o : ℕ) → byte s o ≡ 0 → (b : Bool) → (b || eqb (byte s o) 0) ≡ true
@@ -112,28 +114,17 @@ module _ (p : Plan) (few-nodes : p .nodecount ≤ 16) (some : 1 ≤ p .rowcount)
       go (no a) (no b) (no c) (no d) (no f) (yes g) = zero-byte (writeSet p) o (plan-filler p o (omega arith) g) (planNamed (p .nodecount) o)
       go (no a) (no b) (no c) (no d) (no f) (no g) = rw (le-leb 510 o (omega arith), or-true)
 
-  rows-here : (b : ℕ) → 1 ≤ b → b < blockCount (p .rowcount) → rowsIn (p .rowcount) b ≤ 100
-  unfolding rowsIn
-  rows-here b x y = go (eqb b 1) refl
-    where
-      go : (c : Bool) → eqb b 1 ≡ c → rowsIn (p .rowcount) b ≤ 100
-      go true e = rw e (omega arith)
-      go false e = rw e (omega arith)
-
   message-named : (b o : ℕ) → 1 ≤ b → b < blockCount (p .rowcount) → o < 512 → (messageNamed (rowsIn (p .rowcount) b) o || eqb (byte (writeSet p) (512 * b + o)) 0) ≡ true
   unfolding messageHead
   message-named b o x y h = go (decLt o 5) (decLt o 8) (decLt o (8 + 4 * rowsIn (p .rowcount) b)) (decLt o 510)
     where
-      rows : ℕ
-      rows = rowsIn (p .rowcount) b
-
       go : Dec (o < 5) → Dec (o < 8) → Dec (o < 8 + 4 * rowsIn (p .rowcount) b) → Dec (o < 510) → (messageNamed (rowsIn (p .rowcount) b) o || eqb (byte (writeSet p) (512 * b + o)) 0) ≡ true
       go (yes a) c d e = rw (lt-ltb o 5 a)
       go (no a) (yes c) d e =
           let z : o ≡ 5 + (o - 5) = omega arith in
           zero-byte (writeSet p) (512 * b + o)
           (message-head p b x y o c ∙ ap (λ i. getD (messageHead (p .revision) (rowsIn (p .rowcount) b)) i 0) z
-          ∙ getD-append-add (0x4d ∷ 1 ∷ highByte (p .revision) ∷ lowByte (p .revision) ∷ rowsIn (p .rowcount) b ∷ []) (replicate 3 0) (o - 5) 0 ∙ getD-replicate 3 (o - 5) 0 0 (omega arith)) (messageNamed (rowsIn (p .rowcount) b) o)
+          ∙ getD-append-add (0x4d ∷ 1 ∷ twoBytes (p .revision) ++ rowsIn (p .rowcount) b ∷ []) (replicate 3 0) (o - 5) 0 ∙ getD-replicate 3 (o - 5) 0 0 (omega arith)) (messageNamed (rowsIn (p .rowcount) b) o)
       go (no a) (no c) (yes d) e = rw (le-ltb o 5 (omega arith), le-leb 8 o (omega arith), lt-ltb o (8 + 4 * rowsIn (p .rowcount) b) d)
       go (no a) (no c) (no d) (yes e) = zero-byte (writeSet p) (512 * b + o) (message-filler p b x y o (omega arith) e) (messageNamed (rowsIn (p .rowcount) b) o)
       go (no a) (no c) (no d) (no e) = rw (le-leb 510 o (omega arith), or-true)

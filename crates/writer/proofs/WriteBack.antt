@@ -32,11 +32,11 @@ unfolding fillerRight fillerAt
 filler-at s e o h = all-at (fillerAt s) (length s) e o h
 
 -- the halves of a number of two bytes
-hi-of : (a b : ℕ) → b < 256 → (a * 256 + b) / 256 ≡ a
-hi-of a b h = omega arith
+high-half : (a b : ℕ) → b < 256 → (a * 256 + b) / 256 ≡ a
+high-half a b h = omega arith
 
-lo-of : (a b : ℕ) → b < 256 → (a * 256 + b) % 256 ≡ b
-lo-of a b h = omega arith
+low-half : (a b : ℕ) → b < 256 → (a * 256 + b) % 256 ≡ b
+low-half a b h = omega arith
 
 -- the size of a right set and the rows that it says
 record Short (s : List ℕ) : Type 0 where
@@ -115,11 +115,11 @@ module _ (s : List ℕ) (r : AcceptedSet s) where
     zero-at : (o : ℕ) → o < 1024 → named s o ≡ false → byte s o ≡ 0
     zero-at o h e = no-name o (omega (arith, long-enough)) e
 
-    h : (o : ℕ) → highByte (number s o) ≡ byte s o
-    h o = hi-of (byte s o) (byte s (o + 1)) (bytes (o + 1))
+    high-at : (o : ℕ) → highByte (number s o) ≡ byte s o
+    high-at o = high-half (byte s o) (byte s (o + 1)) (bytes (o + 1))
 
-    l : (o : ℕ) → lowByte (number s o) ≡ byte s (o + 1)
-    l o = lo-of (byte s o) (byte s (o + 1)) (bytes (o + 1))
+    low-at : (o : ℕ) → lowByte (number s o) ≡ byte s (o + 1)
+    low-at o = low-half (byte s o) (byte s (o + 1)) (bytes (o + 1))
 
     head-is : planHead (planOf s) ≡ tab 32 (byte s)
     unfolding planHead planOf timesOf tab named blockType
@@ -128,23 +128,23 @@ module _ (s : List ℕ) (r : AcceptedSet s) where
         cc (
           m .0,
           m .1,
-          h 2,
-          l 2,
+          high-at 2,
+          low-at 2,
           zero-at 5 (omega arith) refl,
-          h 6,
-          l 6,
-          h 8,
-          l 8,
-          h 10,
-          l 10,
-          h 12,
-          l 12,
-          h 14,
-          l 14,
-          h 16,
-          l 16,
-          h 18,
-          l 18,
+          high-at 6,
+          low-at 6,
+          high-at 8,
+          low-at 8,
+          high-at 10,
+          low-at 10,
+          high-at 12,
+          low-at 12,
+          high-at 14,
+          low-at 14,
+          high-at 16,
+          low-at 16,
+          high-at 18,
+          low-at 18,
           zero-at 20 (omega arith) refl,
           zero-at 21 (omega arith) refl,
           zero-at 22 (omega arith) refl,
@@ -244,8 +244,8 @@ module _ (s : List ℕ) (r : AcceptedSet s) where
           let z : 512 * b + 0 ≡ 512 * b = omega arith in
           let y : 512 * b + 2 + 1 ≡ 512 * b + 3 = omega arith in
           let k : blockType b ≡ 0x4d = rw (ne-eqb b 0 (λ e. omega arith)) in
-          let a : highByte (number s 2) ≡ byte s (512 * b + 2) = ap highByte (sym same-revision) ∙ h (512 * b + 2) in
-          let c : lowByte (number s 2) ≡ byte s (512 * b + 3) = ap lowByte (sym same-revision) ∙ l (512 * b + 2) ∙ ap (byte s) y in
+          let a : highByte (number s 2) ≡ byte s (512 * b + 2) = ap highByte (sym same-revision) ∙ high-at (512 * b + 2) in
+          let c : lowByte (number s 2) ≡ byte s (512 * b + 3) = ap lowByte (sym same-revision) ∙ low-at (512 * b + 2) ∙ ap (byte s) y in
           let d : byte s (512 * b + 0) ≡ 0x4d = ap (byte s) z ∙ m .0 ∙ k in
           cc (d, m .1, a, c, blank 5 (omega arith) refl, blank 6 (omega arith) refl, blank 7 (omega arith) refl)
 
