@@ -27,3 +27,8 @@ anyTo f (suc n) = anyTo f n || f n
 unfoldable pub tab {ℓ} : {A : Type ℓ} → ℕ → (ℕ → A) → List A
 tab zero f = []
 tab (suc n) f = f 0 ∷ tab n (λ k. f (suc k))
+
+-- the lowest number below n of which a test holds, n where it holds of none
+unfoldable pub firstTo : (ℕ → Bool) → ℕ → ℕ
+firstTo f zero = 0
+firstTo f (suc n) = pick (anyTo f n) (firstTo f n) (pick (f n) n (suc n))

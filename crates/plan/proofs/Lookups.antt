@@ -1,37 +1,31 @@
 -- Laws of a ReqId's lookup.
-use Prim.Native.Nat.{ℕ, zero, suc, _+_, _≤_, _<_}
-use mathlib.Core.Path.{_≡_, refl}
+use Prim.Native.Nat.{ℕ, _<_}
+use mathlib.Core.Path.{_≡_}
 use mathlib.Core.List.{List}
-use mathlib.Core.Logic.{⊎-elim}
+use mathlib.Core.Bool.{true, false}
 use native.Mathlib.Omega.{arith}
-use native.Mathlib.Numerals.{add-one}
-use borrow.Author.Tests.{eq-eqb, ne-eqb}
-use Rattle.folds.proofs.AllAny.{below-cases}
+use borrow.Author.Tests.{eq-eqb, ne-eqb, lt-ltb, le-ltb}
+use Rattle.folds.specs.Fold.{anyTo}
+use Rattle.folds.proofs.First.{none-next, first-none, first-found}
 use Rattle.plan.specs.declared.Row.{Row}
 use Rattle.plan.specs.declared.Lookup.{Lookup}
 use Rattle.plan.specs.Record.{rowAt}
-use Rattle.plan.specs.Find.{rowAmong}
+use Rattle.plan.specs.Find.{hasReqid, rowAmong}
 
 module _ (rows : List Row) (reqid : ℕ) where
-  pub among-none : rowAmong rows reqid 0 ≡ Lookup.Missing
-  unfolding rowAmong
-  among-none = refl
+  -- a row that has the ReqId, and one that has not
+  pub has : (j : ℕ) → rowAt rows j .reqid ≡ reqid → hasReqid rows reqid j ≡ true
+  unfolding hasReqid
+  has j e = eq-eqb _ _ e
 
-  -- none so far, and not this row
-  pub among-skip : (n : ℕ) → rowAmong rows reqid n ≡ Lookup.Missing → (rowAt rows n .reqid ≡ reqid → ⊥) → rowAmong rows reqid (n + 1) ≡ Lookup.Missing
-  unfolding rowAmong
-  among-skip n e h = rw (add-one, e, ne-eqb _ _ h)
+  pub has-not : (j : ℕ) → (rowAt rows j .reqid ≡ reqid → ⊥) → hasReqid rows reqid j ≡ false
+  unfolding hasReqid
+  has-not j e = ne-eqb _ _ e
 
-  -- none so far, but this row
-  among-here : (n : ℕ) → rowAmong rows reqid n ≡ Lookup.Missing → rowAt rows n .reqid ≡ reqid → rowAmong rows reqid (suc n) ≡ Lookup.Found (rowAt rows n)
+  pub among-none : (n : ℕ) → anyTo (hasReqid rows reqid) n ≡ false → rowAmong rows reqid n ≡ Lookup.Missing
   unfolding rowAmong
-  among-here n e h = rw (e, eq-eqb _ _ h)
+  among-none n e = rw (first-none (hasReqid rows reqid) n e, le-ltb n n (omega arith))
 
-  -- what is found stays found
-  among-kept : (m n : ℕ) (r : Row) → n ≤ m → rowAmong rows reqid n ≡ Lookup.Found r → rowAmong rows reqid m ≡ Lookup.Found r
+  pub among-found : (n j : ℕ) → j < n → anyTo (hasReqid rows reqid) j ≡ false → hasReqid rows reqid j ≡ true → rowAmong rows reqid n ≡ Lookup.Found (rowAt rows j)
   unfolding rowAmong
-  among-kept zero n r l e = let z : n ≡ 0 = omega arith in rw z at e
-  among-kept (suc m) n r l e = ⊎-elim (λ q. rw (among-kept m n r (omega arith) e)) (λ q. rw q at e) (below-cases n (suc m) (omega arith))
-
-  pub among-found : (m n : ℕ) → n < m → rowAmong rows reqid n ≡ Lookup.Missing → rowAt rows n .reqid ≡ reqid → rowAmong rows reqid m ≡ Lookup.Found (rowAt rows n)
-  among-found m n l e h = among-kept m (suc n) (rowAt rows n) (omega arith) (among-here n e h)
+  among-found n j l e h = rw (first-found (hasReqid rows reqid) n j l e h, lt-ltb j n l)

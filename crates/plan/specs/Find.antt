@@ -1,22 +1,24 @@
 -- The row of a ReqId.
-use Prim.Native.Nat.{ℕ, zero, suc}
+use Prim.Native.Nat.{ℕ}
 use mathlib.Core.List.{List}
-use lib.Dec.{eqb}
-use Rattle.folds.specs.Fold.{pick}
+use mathlib.Core.Bool.{Bool}
+use lib.Dec.{ltb, eqb}
+use Rattle.folds.specs.Fold.{pick, firstTo}
 use Rattle.plan.specs.declared.Row.{Row}
 use Rattle.plan.specs.declared.Plan.{Plan}
 use Rattle.plan.specs.declared.Lookup.{Lookup}
 use Rattle.plan.specs.Record.{rowAt, rowsUsed}
 
-abbrev pub orElse : Lookup → Lookup → Lookup
-orElse (Lookup.Found r) other = Lookup.Found r
-orElse Lookup.Missing other = other
+unfoldable pub hasReqid : List Row → ℕ → ℕ → Bool
+hasReqid rows reqid j = eqb (rowAt rows j .reqid) reqid
+
+-- row j, where j is below n
+abbrev pub rowBelow : List Row → ℕ → ℕ → Lookup
+rowBelow rows n j = pick (ltb j n) (Lookup.Found (rowAt rows j)) Lookup.Missing
 
 -- the first row of a ReqId among the first n
 unfoldable pub rowAmong : List Row → ℕ → ℕ → Lookup
-rowAmong rows reqid zero = Lookup.Missing
-rowAmong rows reqid (suc n) =
-    orElse (rowAmong rows reqid n) (pick (eqb (rowAt rows n .reqid) reqid) (Lookup.Found (rowAt rows n)) Lookup.Missing)
+rowAmong rows reqid n = rowBelow rows n (firstTo (hasReqid rows reqid) n)
 
 -- among the rows in use; in an accepted plan at most one has the ReqId
 unfoldable pub findRow : Plan → ℕ → Lookup

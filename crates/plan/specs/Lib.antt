@@ -1,3 +1,4 @@
+pub mod Answers
 pub mod Find
 pub mod Record
 pub mod Rules

@@ -9,6 +9,7 @@ use Rattle.plan.specs.declared.NodeEntry.{NodeEntry}
 use Rattle.plan.specs.declared.Row.{Row}
 use Rattle.plan.specs.declared.Times.{Times}
 use Rattle.plan.specs.declared.Plan.{Plan}
+use Rattle.plan.specs.Answers.{masterNumber}
 use Rattle.plan.specs.Record.{entryAt, rowAt, rowsUsed}
 
 abbrev pub inRange : ℕ → ℕ → ℕ → Bool
@@ -51,7 +52,7 @@ reqidBefore rows j = pick (eqb j 0) 0 (rowAt rows (j - 1) .reqid)
 -- "1 if it carries a sequence count, else 0"
 unfoldable pub rowAfter : ℕ → ℕ → Row → Bool
 rowAfter nodecount before r =
-    ltb before (r .reqid) && leb (r .reqid) 127 && (ltb (r .publisher) nodecount || eqb (r .publisher) 255) && leb (r .kind) 1
+    ltb before (r .reqid) && leb (r .reqid) 127 && (ltb (r .publisher) nodecount || eqb (r .publisher) masterNumber) && leb (r .kind) 1
 
 unfoldable pub rowRight : ℕ → List Row → ℕ → Bool
 rowRight nodecount rows j = rowAfter nodecount (reqidBefore rows j) (rowAt rows j)

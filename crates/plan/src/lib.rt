@@ -1,6 +1,7 @@
 // The plan record of a release set. Every value is a number that can hold a wrong one, so that a wrong record is refused and not impossible.
 ghost use mathlib.Core.Path.{_≡_};
-ghost use Rattle.plan.specs.Record.{zeroPlan};
+ghost use Rattle.plan.specs.Record.{zeroPlan, entryAt};
+ghost use Rattle.plan.specs.Answers.{isPolled, isCounted, accepts};
 
 mod find;
 mod rules;
@@ -60,7 +61,44 @@ pub enum Lookup {
     Missing,
 }
 
+fn method_of(nodes: [NodeEntry; 16], node: u8) -> u8
+    ensures { λ r. ⌜ r ≡ entryAt nodes node .method ⌝ }
+{
+    if node < 16 {
+        nodes[node as usize].method
+    } else {
+        0
+    }
+}
+
+impl Row {
+    // Whether the row carries a sequence count.
+    pub fn is_counted(self) -> bool
+        ensures { λ r. ⌜ r ≡ isCounted self ⌝ }
+    {
+        self.kind == 1
+    }
+
+    // Whether an answer of a length is one that the row accepts.
+    pub fn accepts(self, length: u16) -> bool
+        ensures { λ r. ⌜ r ≡ accepts self length ⌝ }
+    {
+        length == (self.length as u16)
+    }
+}
+
 impl Plan {
+    // The publisher's number of a row of the master.
+    pub const MASTER: u8 = 255;
+
+    // Whether a node is polled.
+    pub fn is_polled(self, node: u8) -> bool
+        ensures { λ r. ⌜ r ≡ isPolled self node ⌝ }
+    {
+        let nodes = self.nodes;
+        method_of(nodes, node) == 1
+    }
+
     // The record that a refused read gives.
     pub fn zero() -> Plan
         ensures { λ r. ⌜ r ≡ zeroPlan ⌝ }

@@ -94,7 +94,7 @@ fn row_after(nodecount: u8, before: u8, row: Row) -> bool
 {
     (before < row.reqid)
         & (row.reqid <= 127)
-        & ((row.publisher < nodecount) | (row.publisher == 255))
+        & ((row.publisher < nodecount) | (row.publisher == Plan::MASTER))
         & (row.kind <= 1)
 }
 

@@ -1,22 +1,25 @@
 -- No row so far has the ReqId. Assumes nothing.
 use Prim.Native.Nat.{_-_, _≤_}
 use mathlib.Core.Path.{_≡_, sym}
+use mathlib.Core.Bool.{false}
 use native.Mathlib.Omega.{arith}
-use Rattle.plan.specs.declared.Lookup.{Lookup}
-use Rattle.plan.specs.Find.{rowAmong}
-use Rattle.plan.proofs.Lookups.{among-none, among-skip, among-found}
+use Rattle.folds.specs.Fold.{anyTo}
+use Rattle.folds.proofs.AllAny.{any-none}
+use Rattle.folds.proofs.First.{none-next}
+use Rattle.plan.specs.Find.{hasReqid}
+use Rattle.plan.proofs.Lookups.{has, has-not, among-none, among-found}
 use borrow.Author.Needs.{needs}
 use Rattle.plan.proofs.find.row_among.Statement.{statement}
 use Rattle.plan.proofs.find.row_among.Tie as tie
 
 abbrev Inv-loop : tie.InvT-loop
-Inv-loop count reqid rows j₀ j = (j ≤ count) × (rowAmong rows reqid j ≡ Lookup.Missing)
+Inv-loop count reqid rows j₀ j = (j ≤ count) × (anyTo (hasReqid rows reqid) j ≡ false)
 
 abbrev μ-loop : tie.MeasureT-loop
 μ-loop count reqid rows j₀ j = count - j
 
 loop-holds : tie.Need-loop-holds Inv-loop μ-loop
-loop-holds c = (search needs, among-none _ _)
+loop-holds c = (search needs, any-none _)
 
 mul-row : tie.Need-mul-row Inv-loop μ-loop
 mul-row c = search needs
@@ -25,7 +28,7 @@ array-copy-out-row : tie.Need-array-copy-out-row Inv-loop μ-loop
 array-copy-out-row c = search needs
 
 returns : tie.Need-returns Inv-loop μ-loop
-returns c = sym (among-found _ _ _ (c .before .before .before .before .loop .j) (omega arith) (c .before .before .before .before .loop .inv .1) (c .if1 .taken))
+returns c = sym (among-found _ _ _ (c .before .before .before .before .loop .j) (omega arith) (c .before .before .before .before .loop .inv .1) (has _ _ _ (c .if1 .taken)))
 
 add-j : tie.Need-add-j Inv-loop μ-loop
 add-j c = search needs
@@ -34,12 +37,12 @@ loop-less : tie.Need-loop-less Inv-loop μ-loop
 loop-less c = search needs
 
 loop-again : tie.Need-loop-again Inv-loop μ-loop
-loop-again c = (search needs, among-skip _ _ _ (c .before .before .before .before .loop .inv .1) (c .if1 .left))
+loop-again c = (search needs, none-next _ _ (c .before .before .before .before .loop .inv .1) (has-not _ _ _ (c .if1 .left)))
 
 returns-2 : tie.Need-returns-2 Inv-loop μ-loop
 returns-2 c =
     let e : c .before .loop .j ≡ c .before .before .args .count = omega arith in
-    sym (rw e at (c .before .loop .inv .1))
+    sym (among-none _ _ _ (rw e at (c .before .loop .inv .1)))
 
 pub row-among-spec : {M : Type 1} → statement M
 row-among-spec =

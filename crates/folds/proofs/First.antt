@@ -1,0 +1,40 @@
+-- Laws of the lowest number of which a test holds.
+use Prim.Native.Nat.{ℕ, zero, suc, _+_, _≤_, _<_}
+use mathlib.Core.Path.{_≡_, refl, ap, sym, _∙_}
+use mathlib.Core.Bool.{Bool, true, false, _||_, or-false, or-true}
+use mathlib.Core.Logic.{⊎-elim}
+use native.Mathlib.Omega.{arith}
+use native.Mathlib.Numerals.{add-one}
+use Rattle.folds.specs.Fold.{pick, anyTo, firstTo}
+use Rattle.folds.proofs.AllAny.{below-cases, any-none, any-next}
+
+module _ (f : ℕ → Bool) where
+  -- none so far, none at n
+  pub none-next : (n : ℕ) → anyTo f n ≡ false → f n ≡ false → anyTo f (n + 1) ≡ false
+  none-next n e h = any-next f n ∙ rw (e, h)
+
+  pub first-none : (n : ℕ) → anyTo f n ≡ false → firstTo f n ≡ n
+  unfolding firstTo anyTo
+  first-none zero e = refl
+  first-none (suc n) e = go (anyTo f n) refl (f n) refl
+    where
+      go : (a : Bool) → anyTo f n ≡ a → (b : Bool) → f n ≡ b → firstTo f (suc n) ≡ suc n
+      go false p false q = rw (p, q)
+      go false p true q = let z : _≡_ {A = ℕ} 0 1 = cc (rw (p, q) at e) in absurd (omega arith)
+      go true p b q = let z : _≡_ {A = ℕ} 0 1 = cc (rw p at e) in absurd (omega arith)
+
+  any-kept : (m n : ℕ) → n ≤ m → anyTo f n ≡ true → (anyTo f m ≡ true) × (firstTo f m ≡ firstTo f n)
+  unfolding firstTo anyTo
+  any-kept zero n l e = let z : n ≡ 0 = omega arith in (rw z at e, ap (firstTo f) (sym z))
+  any-kept (suc m) n l e = ⊎-elim (λ q. later (any-kept m n (omega arith) e)) (λ q. (rw q at e, ap (firstTo f) (sym q))) (below-cases n (suc m) (omega arith))
+    where
+      later : (anyTo f m ≡ true) × (firstTo f m ≡ firstTo f n) → (anyTo f (suc m) ≡ true) × (firstTo f (suc m) ≡ firstTo f n)
+      later h = (rw (h .0), rw (h .0) (h .1))
+
+  -- none below n, but n itself
+  pub first-found : (m n : ℕ) → n < m → anyTo f n ≡ false → f n ≡ true → firstTo f m ≡ n
+  unfolding firstTo anyTo
+  first-found m n l e h =
+      let a : anyTo f (suc n) ≡ true = rw (e, h) in
+      let b : firstTo f (suc n) ≡ n = rw (e, h) in
+      any-kept m (suc n) (omega arith) a .1 ∙ b

@@ -1,0 +1,26 @@
+-- By what each test ensures. Assumes nothing.
+use mathlib.Core.Path.{ap, ap₂}
+use mathlib.Core.Bool.{_&&_}
+use lib.Dec.{leb}
+use Rattle.node.specs.Range.{inRange}
+use borrow.Author.Needs.{needs}
+use Rattle.node.proofs.Node.in_range.Statement.{statement}
+use Rattle.node.proofs.Node.in_range.Tie as tie
+
+delay-right-requires : tie.Need-delay-right-requires
+delay-right-requires c κs = search needs
+
+standby-right-requires : tie.Need-standby-right-requires
+standby-right-requires c κs = search needs
+
+counts-right-requires : tie.Need-counts-right-requires
+counts-right-requires c κs = search needs
+
+returns : tie.Need-returns
+unfolding inRange
+returns c =
+    ap₂ _&&_ (ap₂ _&&_ (ap (λ x. leb (c .before .before .before .before .before .before .args .self .quiet) (c .before .before .before .before .before .before .args .times .quiet) && x) (c .before .before .delay-right .ensures)) (c .before .standby-right .ensures)) (c .counts-right .ensures)
+
+pub in-range-spec : {M : Type 1} → statement M
+in-range-spec =
+    tie.close (tie.spec delay-right-requires standby-right-requires counts-right-requires returns)

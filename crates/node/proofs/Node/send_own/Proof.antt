@@ -1,0 +1,39 @@
+use borrow.Author.Needs.{needs}
+use Rattle.node.proofs.Node.send_own.Statement.{statement}
+use Rattle.node.proofs.Node.send_own.Tie as tie
+
+send-requires : tie.Need-send-requires
+send-requires c κs = search needs
+
+refuse-requires : tie.Need-refuse-requires
+refuse-requires c κs = search needs
+
+send-requires-2 : tie.Need-send-requires-2
+send-requires-2 c κs = search needs
+
+returns : tie.Need-returns
+returns c =
+    rw (
+        c .send .ensures,
+        c .before .before .if1 .taken,
+        c .before .if2 .taken,
+    )
+
+returns-2 : tie.Need-returns-2
+returns-2 c =
+    rw (
+        c .refuse .ensures,
+        c .before .before .if1 .taken,
+        c .before .if2 .left,
+    )
+
+returns-3 : tie.Need-returns-3
+returns-3 c =
+    rw (
+        c .send2 .ensures,
+        c .before .if1 .left,
+    )
+
+pub send-own-spec : {M : Type 1} → statement M
+send-own-spec =
+    tie.close (tie.spec send-requires refuse-requires send-requires-2 returns returns-2 returns-3)

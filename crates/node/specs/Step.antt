@@ -1,0 +1,48 @@
+-- A node's step.
+use Prim.Native.Nat.{ℕ}
+use mathlib.Core.Bool.{Bool, true}
+use lib.Dec.{ltb, eqb}
+use Rattle.folds.specs.Fold.{pick}
+use Rattle.plan.specs.declared.Plan.{Plan}
+use Rattle.plan.specs.Rules.{planRefusal}
+use Rattle.plan.specs.Answers.{isPolled}
+use Rattle.plan.specs.Find.{findRow}
+use Rattle.node.specs.declared.Node.{Node}
+use Rattle.node.specs.declared.Event.{Event}
+use Rattle.node.specs.declared.Reply.{Reply}
+use Rattle.node.specs.Changes.{refuse}
+use Rattle.node.specs.Range.{inRange}
+use Rattle.node.specs.Ticks.{tickStep}
+use Rattle.node.specs.Waking.{pulseStep, wakeAskStep, permissionStep}
+use Rattle.node.specs.Sending.{sleepMessageStep, requestStep, sendAskStep}
+
+-- 15: "an event's .. ReqId above 127"
+abbrev pub eventRight : Event → Bool
+eventRight (Event.Tick clock) = true
+eventRight Event.Pulse = true
+eventRight Event.WakeAsk = true
+eventRight (Event.Permission permitted) = true
+eventRight Event.SleepMessage = true
+eventRight (Event.Request reqid) = ltb reqid 128
+eventRight (Event.SendAsk reqid) = ltb reqid 128
+
+-- what each event does, 16 and the later numbers included
+abbrev pub act : Plan → ℕ → Node → Event → Reply
+act p me n (Event.Tick clock) = tickStep (p .times) clock n
+act p me n Event.Pulse = pulseStep n
+act p me n Event.WakeAsk = wakeAskStep n
+act p me n (Event.Permission permitted) = permissionStep permitted n
+act p me n Event.SleepMessage = sleepMessageStep n
+act p me n (Event.Request reqid) = requestStep me (findRow p reqid) n
+act p me n (Event.SendAsk reqid) = sendAskStep me (isPolled p me) (findRow p reqid) n
+
+-- "plan 4 to 8 first, then 11, 15, 16, then the rest by number"; 11 is a "state record or node number out of range"
+abbrev pub nodeStep : Plan → ℕ → Node → Event → Reply
+nodeStep p me n e =
+    pick (eqb (planRefusal p) 0)
+    (pick (ltb me (p .nodecount))
+    (pick (inRange (p .times) n)
+    (pick (eventRight e) (act p me n e) (refuse n 15))
+    (refuse n 11))
+    (refuse n 11))
+    (refuse n (planRefusal p))

@@ -1,0 +1,223 @@
+// The node machine.
+ghost use mathlib.Core.Path.{_≡_};
+ghost use Rattle.node.specs.Changes.{powerOn, toSleep, toNormal, toStandby, nextCount, silent, calls, refuse};
+ghost use Rattle.node.specs.Step.{eventRight, act, nodeStep};
+use plan::Lookup;
+use plan::Plan;
+use plan::plan_refusal;
+use states::State;
+
+mod range;
+mod sending;
+mod ticks;
+mod waking;
+
+// The sleep delay that a sleep message starts.
+pub enum Delay {
+    Off,
+    On(u16),
+}
+
+pub enum Command {
+    Nothing,
+    // a wake-up pulse
+    Pulse,
+    // an answer with the permission bit, the wake bit and the sequence count
+    Send {
+        permission: bool,
+        wake: bool,
+        count: u8,
+    },
+}
+
+pub enum Event {
+    // with clock or without
+    Tick(bool),
+    // a pulse heard
+    Pulse,
+    // the application's ask to wake
+    WakeAsk,
+    // the application's permission to sleep
+    Permission(bool),
+    SleepMessage,
+    // the master's request of a ReqId
+    Request(u8),
+    // the application's ask to send a ReqId
+    SendAsk(u8),
+}
+
+pub struct Node {
+    pub state: State,
+    pub permission: bool,
+    // network error
+    pub error: bool,
+    // the wake bit of the next answer
+    pub wake: bool,
+    // whether a request was heard since Normal was entered
+    pub heard: bool,
+    // in Standby: whether the node called the master
+    pub caller: bool,
+    // ticks without clock in Normal
+    pub quiet: u16,
+    pub delay: Delay,
+    // ticks in Standby
+    pub standby: u32,
+    // a sequence count per ReqId
+    pub counts: [u8; 128],
+}
+
+pub struct Reply {
+    pub node: Node,
+    pub command: Command,
+    pub refusal: u8,
+}
+
+fn silent(node: Node) -> Reply
+    ensures { λ r. ⌜ r ≡ silent node ⌝ }
+{
+    Reply {
+        node,
+        command: Command::Nothing,
+        refusal: 0,
+    }
+}
+
+fn calls(node: Node) -> Reply
+    ensures { λ r. ⌜ r ≡ calls node ⌝ }
+{
+    Reply {
+        node,
+        command: Command::Pulse,
+        refusal: 0,
+    }
+}
+
+fn refuse(node: Node, refusal: u8) -> Reply
+    ensures { λ r. ⌜ r ≡ refuse node refusal ⌝ }
+{
+    Reply {
+        node,
+        command: Command::Nothing,
+        refusal,
+    }
+}
+
+fn is_right(event: Event) -> bool
+    ensures { λ r. ⌜ r ≡ eventRight event ⌝ }
+{
+    match event {
+        Event::Tick(_) => true,
+        Event::Pulse => true,
+        Event::WakeAsk => true,
+        Event::Permission(_) => true,
+        Event::SleepMessage => true,
+        Event::Request(reqid) => reqid < Node::REQIDS,
+        Event::SendAsk(reqid) => reqid < Node::REQIDS,
+    }
+}
+
+impl Node {
+    // ReqIds lie below this.
+    pub const REQIDS: u8 = 128;
+    // Sequence counts lie below this and follow each other modulo it.
+    pub const COUNTS: u8 = 4;
+
+    pub fn power_on() -> Node
+        ensures { λ r. ⌜ r ≡ powerOn ⌝ }
+    {
+        Node {
+            state: State::Sleep,
+            permission: false,
+            error: false,
+            wake: false,
+            heard: false,
+            caller: false,
+            quiet: 0,
+            delay: Delay::Off,
+            standby: 0,
+            counts: [0; 128],
+        }
+    }
+
+    fn to_sleep(self) -> Node
+        ensures { λ r. ⌜ r ≡ toSleep self ⌝ }
+    {
+        Node {
+            permission: self.permission,
+            ..Node::power_on()
+        }
+    }
+
+    fn to_normal(self) -> Node
+        ensures { λ r. ⌜ r ≡ toNormal self ⌝ }
+    {
+        Node {
+            state: State::Normal,
+            error: false,
+            heard: false,
+            caller: false,
+            quiet: 0,
+            delay: Delay::Off,
+            standby: 0,
+            counts: [0; 128],
+            ..self
+        }
+    }
+
+    fn to_standby(self, caller: bool) -> Node
+        ensures { λ r. ⌜ r ≡ toStandby self caller ⌝ }
+    {
+        Node {
+            state: State::Standby,
+            caller,
+            standby: 0,
+            ..self
+        }
+    }
+
+    // What an event does once plan, state and event are judged.
+    fn act(self, plan: Plan, me: u8, event: Event) -> Reply
+        ensures { λ r. ⌜ r ≡ act plan me self event ⌝ }
+    {
+        match event {
+            Event::Tick(clock) => {
+                let times = plan.times;
+                self.tick(times, clock)
+            }
+            Event::Pulse => self.pulse(),
+            Event::WakeAsk => self.wake_ask(),
+            Event::Permission(permitted) => self.permit(permitted),
+            Event::SleepMessage => self.sleep_message(),
+            Event::Request(reqid) => self.request(me, plan::find_row(plan, reqid)),
+            Event::SendAsk(reqid) => {
+                let polled = plan.is_polled(me);
+                self.send_ask(me, polled, plan::find_row(plan, reqid))
+            }
+        }
+    }
+
+    // A step of node number `me` under a plan.
+    pub fn step(self, plan: Plan, me: u8, event: Event) -> Reply
+        ensures { λ r. ⌜ r ≡ nodeStep plan me self event ⌝ }
+    {
+        let refusal = plan_refusal(plan);
+        if refusal == 0 {
+            let times = plan.times;
+            if me < plan.nodecount {
+                if self.in_range(times) {
+                    if is_right(event) {
+                        self.act(plan, me, event)
+                    } else {
+                        refuse(self, 15)
+                    }
+                } else {
+                    refuse(self, 11)
+                }
+            } else {
+                refuse(self, 11)
+            }
+        } else {
+            refuse(self, refusal)
+        }
+    }
+}

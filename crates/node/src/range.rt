@@ -1,0 +1,60 @@
+// The limits of a node's fields.
+ghost use mathlib.Core.Path.{_≡_};
+ghost use Rattle.folds.specs.Fold.{allTo};
+ghost use Rattle.node.specs.Range.{delayRight, standbyRight, countRight, countsRight, inRange};
+use crate::Delay;
+use crate::Node;
+use plan::Times;
+use states::State;
+
+fn delay_right(limit: u16, delay: Delay) -> bool
+    ensures { λ r. ⌜ r ≡ delayRight limit delay ⌝ }
+{
+    match delay {
+        Delay::Off => true,
+        Delay::On(ticks) => ticks < limit,
+    }
+}
+
+fn standby_right(times: Times, state: State, caller: bool, standby: u32) -> bool
+    ensures { λ r. ⌜ r ≡ standbyRight times state caller standby ⌝ }
+{
+    match state {
+        State::Normal => !caller & (standby == 0),
+        State::Sleep => !caller & (standby == 0),
+        State::Standby => {
+            if caller {
+                standby <= 2 * (times.recovery as u32)
+            } else {
+                standby < (times.space as u32)
+            }
+        }
+    }
+}
+
+// No exit, so that the loop is compiled to vector instructions.
+fn counts_right(counts: [u8; 128]) -> bool
+    ensures { λ r. ⌜ r ≡ countsRight counts ⌝ }
+{
+    let mut right: bool = true;
+    let mut i: usize = 0;
+    while i < 128 {
+        right = right & (counts[i] < Node::COUNTS);
+        i += 1;
+    }
+    right
+}
+
+impl Node {
+    pub fn in_range(self, times: Times) -> bool
+        ensures { λ r. ⌜ r ≡ inRange times self ⌝ }
+    {
+        let delay = self.delay;
+        let state = self.state;
+        let counts = self.counts;
+        (self.quiet <= times.quiet)
+            & delay_right(times.sleep, delay)
+            & standby_right(times, state, self.caller, self.standby)
+            & counts_right(counts)
+    }
+}

@@ -1,0 +1,55 @@
+// Waking and permission of a node.
+ghost use mathlib.Core.Path.{_≡_};
+ghost use Rattle.node.specs.Waking.{pulseStep, wakeAskStep, permissionStep};
+use crate::Node;
+use crate::Reply;
+use crate::calls;
+use crate::silent;
+use states::State;
+
+impl Node {
+    pub fn pulse(self) -> Reply
+        ensures { λ r. ⌜ r ≡ pulseStep self ⌝ }
+    {
+        let state = self.state;
+        match state {
+            State::Sleep => silent(self.to_standby(false)),
+            State::Standby => silent(self),
+            State::Normal => silent(self),
+        }
+    }
+
+    pub fn wake_ask(mut self) -> Reply
+        ensures { λ r. ⌜ r ≡ wakeAskStep self ⌝ }
+    {
+        let state = self.state;
+        let caller = self.caller;
+        self.wake = true;
+        match state {
+            State::Sleep => calls(self.to_standby(true)),
+            State::Standby => {
+                if caller {
+                    silent(self)
+                } else {
+                    calls(self.to_standby(true))
+                }
+            }
+            State::Normal => silent(self),
+        }
+    }
+
+    pub fn permit(mut self, permitted: bool) -> Reply
+        ensures { λ r. ⌜ r ≡ permissionStep permitted self ⌝ }
+    {
+        self.permission = permitted;
+        if permitted {
+            if self.error {
+                silent(self.to_sleep())
+            } else {
+                silent(self)
+            }
+        } else {
+            silent(self)
+        }
+    }
+}
