@@ -4,7 +4,7 @@ use mathlib.Core.Bool.{Bool, true, false}
 use lib.Dec.{ltb}
 use lib.ListN.{getD, set, replicate}
 use Rattle.folds.specs.Fold.{pick}
-use Rattle.states.specs.declared.State.{State}
+use Rattle.machine.specs.declared.State.{State}
 use Rattle.node.specs.declared.Delay.{Delay}
 use Rattle.node.specs.declared.Command.{Command}
 use Rattle.node.specs.declared.Node.{Node}

@@ -4,7 +4,7 @@ use mathlib.Core.Bool.{Bool}
 use lib.Dec.{eqb}
 use lib.ListN.{getD}
 use Rattle.folds.specs.Fold.{pick}
-use Rattle.states.specs.declared.State.{State}
+use Rattle.machine.specs.declared.State.{State}
 use Rattle.plan.specs.declared.Lookup.{Lookup}
 use Rattle.node.specs.declared.Delay.{Delay}
 use Rattle.node.specs.declared.Command.{Command}

@@ -3,7 +3,7 @@ use Prim.Native.Nat.{ℕ, _+_, _*_}
 use mathlib.Core.Bool.{Bool, true, false}
 use lib.Dec.{ltb, eqb}
 use Rattle.folds.specs.Fold.{pick}
-use Rattle.states.specs.declared.State.{State}
+use Rattle.machine.specs.declared.State.{State}
 use Rattle.plan.specs.declared.Times.{Times}
 use Rattle.node.specs.declared.Delay.{Delay}
 use Rattle.node.specs.declared.Node.{Node}

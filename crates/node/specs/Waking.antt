@@ -1,7 +1,7 @@
 -- A node's waking and its permission.
 use mathlib.Core.Bool.{Bool, true, false}
 use Rattle.folds.specs.Fold.{pick}
-use Rattle.states.specs.declared.State.{State}
+use Rattle.machine.specs.declared.State.{State}
 use Rattle.node.specs.declared.Node.{Node}
 use Rattle.node.specs.declared.Reply.{Reply}
 use Rattle.node.specs.Changes.{toSleep, toStandby, withPermission, withWake, silent, calls}

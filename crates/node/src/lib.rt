@@ -2,10 +2,10 @@
 ghost use mathlib.Core.Path.{_≡_};
 ghost use Rattle.node.specs.Changes.{powerOn, toSleep, toNormal, toStandby, nextCount, silent, calls, refuse};
 ghost use Rattle.node.specs.Step.{eventRight, act, nodeStep};
+use machine::State;
 use plan::Lookup;
 use plan::Plan;
 use plan::plan_refusal;
-use states::State;
 
 mod range;
 mod sending;
@@ -111,14 +111,12 @@ fn is_right(event: Event) -> bool
         Event::WakeAsk => true,
         Event::Permission(_) => true,
         Event::SleepMessage => true,
-        Event::Request(reqid) => reqid < Node::REQIDS,
-        Event::SendAsk(reqid) => reqid < Node::REQIDS,
+        Event::Request(reqid) => reqid < machine::REQIDS,
+        Event::SendAsk(reqid) => reqid < machine::REQIDS,
     }
 }
 
 impl Node {
-    // ReqIds lie below this.
-    pub const REQIDS: u8 = 128;
     // Sequence counts lie below this and follow each other modulo it.
     pub const COUNTS: u8 = 4;
 

@@ -1,11 +1,11 @@
 // The limits of a node's fields.
 ghost use mathlib.Core.Path.{_≡_};
-ghost use Rattle.folds.specs.Fold.{allTo};
-ghost use Rattle.node.specs.Range.{delayRight, standbyRight, countRight, countsRight, inRange};
+ghost use Rattle.node.specs.Range.{delayRight, standbyRight, inRange};
 use crate::Delay;
 use crate::Node;
+use machine::State;
+use machine::counts_below;
 use plan::Times;
-use states::State;
 
 fn delay_right(limit: u16, delay: Delay) -> bool
     ensures { λ r. ⌜ r ≡ delayRight limit delay ⌝ }
@@ -32,19 +32,6 @@ fn standby_right(times: Times, state: State, caller: bool, standby: u32) -> bool
     }
 }
 
-// No exit, so that the loop is compiled to vector instructions.
-fn counts_right(counts: [u8; 128]) -> bool
-    ensures { λ r. ⌜ r ≡ countsRight counts ⌝ }
-{
-    let mut right: bool = true;
-    let mut i: usize = 0;
-    while i < 128 {
-        right = right & (counts[i] < Node::COUNTS);
-        i += 1;
-    }
-    right
-}
-
 impl Node {
     pub fn in_range(self, times: Times) -> bool
         ensures { λ r. ⌜ r ≡ inRange times self ⌝ }
@@ -55,6 +42,6 @@ impl Node {
         (self.quiet <= times.quiet)
             & delay_right(times.sleep, delay)
             & standby_right(times, state, self.caller, self.standby)
-            & counts_right(counts)
+            & counts_below(counts, Node::COUNTS)
     }
 }

@@ -1,6 +1,5 @@
 // Messages of a node: the sleep message, requests, and its own sending.
 ghost use mathlib.Core.Path.{_≡_};
-ghost use lib.ListN.{getD, set};
 ghost use Rattle.node.specs.Changes.{nextCount};
 ghost use Rattle.node.specs.Sending.{sleepMessageStep, sendStep, requestRow, requestStep, sendOwn, sendAskRow, sendAskStep};
 use crate::Command;
@@ -9,8 +8,10 @@ use crate::Node;
 use crate::Reply;
 use crate::refuse;
 use crate::silent;
+use machine::State;
+use machine::count_of;
+use machine::with_count;
 use plan::Lookup;
-use states::State;
 
 fn next_count(count: u8) -> u8
     ensures { λ r. ⌜ r ≡ nextCount count ⌝ }
@@ -20,25 +21,6 @@ fn next_count(count: u8) -> u8
     } else {
         0
     }
-}
-
-fn count_of(counts: [u8; 128], reqid: u8) -> u8
-    ensures { λ r. ⌜ r ≡ getD counts reqid 0 ⌝ }
-{
-    if reqid < Node::REQIDS {
-        counts[reqid as usize]
-    } else {
-        0
-    }
-}
-
-fn with_count(mut counts: [u8; 128], reqid: u8, count: u8) -> [u8; 128]
-    ensures { λ r. ⌜ r ≡ set counts reqid count ⌝ }
-{
-    if reqid < Node::REQIDS {
-        counts[reqid as usize] = count;
-    }
-    counts
 }
 
 impl Node {

@@ -6,8 +6,8 @@ use crate::Node;
 use crate::Reply;
 use crate::calls;
 use crate::silent;
+use machine::State;
 use plan::Times;
-use states::State;
 
 impl Node {
     fn quiet_tick(mut self, limit: u16) -> Reply

@@ -5,7 +5,7 @@ use crate::Node;
 use crate::Reply;
 use crate::calls;
 use crate::silent;
-use states::State;
+use machine::State;
 
 impl Node {
     pub fn pulse(self) -> Reply

@@ -13,14 +13,14 @@ delay-right-requires c κs = search needs
 standby-right-requires : tie.Need-standby-right-requires
 standby-right-requires c κs = search needs
 
-counts-right-requires : tie.Need-counts-right-requires
-counts-right-requires c κs = search needs
+counts-below-requires : tie.Need-counts-below-requires
+counts-below-requires c κs = search needs
 
 returns : tie.Need-returns
 unfolding inRange
 returns c =
-    ap₂ _&&_ (ap₂ _&&_ (ap (λ x. leb (c .before .before .before .before .before .before .args .self .quiet) (c .before .before .before .before .before .before .args .times .quiet) && x) (c .before .before .delay-right .ensures)) (c .before .standby-right .ensures)) (c .counts-right .ensures)
+    ap₂ _&&_ (ap₂ _&&_ (ap (λ x. leb (c .before .before .before .before .before .before .args .self .quiet) (c .before .before .before .before .before .before .args .times .quiet) && x) (c .before .before .delay-right .ensures)) (c .before .standby-right .ensures)) (c .counts-below .ensures)
 
 pub in-range-spec : {M : Type 1} → statement M
 in-range-spec =
-    tie.close (tie.spec delay-right-requires standby-right-requires counts-right-requires returns)
+    tie.close (tie.spec delay-right-requires standby-right-requires counts-below-requires returns)

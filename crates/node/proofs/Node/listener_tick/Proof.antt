@@ -24,16 +24,16 @@ silent-requires-2 c κs = search needs
 returns : tie.Need-returns
 returns c =
     rw (
-        c .silent .ensures,
-        lt-ltb _ _ (c .before .if1 .taken),
+      c .silent .ensures,
+      lt-ltb _ _ (c .before .if1 .taken),
     )
 
 returns-2 : tie.Need-returns-2
 returns-2 c =
     rw (
-        c .silent2 .ensures,
-        c .before .to-sleep .ensures,
-        le-ltb _ _ (c .before .before .if1 .left),
+      c .silent2 .ensures,
+      c .before .to-sleep .ensures,
+      le-ltb _ _ (c .before .before .if1 .left),
     )
 
 pub listener-tick-spec : {M : Type 1} → statement M

@@ -14,9 +14,9 @@ with-count-requires c κs = search needs
 returns : tie.Need-returns
 returns c =
     rw (
-        c .with-count .ensures,
-        c .before .next-count .ensures,
-        c .before .before .count-of .ensures,
+      c .with-count .ensures,
+      c .before .next-count .ensures,
+      c .before .before .count-of .ensures,
     )
 
 pub send-spec : {M : Type 1} → statement M

@@ -23,22 +23,22 @@ refuse-requires-2 c κs = search needs
 returns : tie.Need-returns
 returns c =
     rw (
-        c .send-ask-row .ensures,
-        c .before .enum-told .given .1,
+      c .send-ask-row .ensures,
+      c .before .enum-told .given .1,
     )
 
 returns-2 : tie.Need-returns-2
 returns-2 c =
     rw (
-        c .refuse .ensures,
-        c .before .enum-told2 .given .1,
+      c .refuse .ensures,
+      c .before .enum-told2 .given .1,
     )
 
 returns-3 : tie.Need-returns-3
 returns-3 c =
     rw (
-        c .refuse2 .ensures,
-        c .before .enum-told3 .given .1,
+      c .refuse2 .ensures,
+      c .before .enum-told3 .given .1,
     )
 
 pub send-ask-spec : {M : Type 1} → statement M

@@ -21,24 +21,24 @@ refuse-requires-2 c κs = search needs
 returns : tie.Need-returns
 returns c =
     rw (
-        c .refuse .ensures,
-        c .before .enum-told .given .1,
+      c .refuse .ensures,
+      c .before .enum-told .given .1,
     )
 
 returns-2 : tie.Need-returns-2
 returns-2 c =
     rw (
-        c .send-own .ensures,
-        c .before .before .before .before .row .given .1,
-        eq-eqb _ _ (c .before .if1 .taken),
+      c .send-own .ensures,
+      c .before .before .before .before .row .given .1,
+      eq-eqb _ _ (c .before .if1 .taken),
     )
 
 returns-3 : tie.Need-returns-3
 returns-3 c =
     rw (
-        c .refuse2 .ensures,
-        c .before .before .before .before .row .given .1,
-        ne-eqb _ _ (c .before .if1 .left),
+      c .refuse2 .ensures,
+      c .before .before .before .before .row .given .1,
+      ne-eqb _ _ (c .before .if1 .left),
     )
 
 pub send-ask-row-spec : {M : Type 1} → statement M

@@ -14,24 +14,24 @@ send-requires-2 c κs = search needs
 returns : tie.Need-returns
 returns c =
     rw (
-        c .send .ensures,
-        c .before .before .if1 .taken,
-        c .before .if2 .taken,
+      c .send .ensures,
+      c .before .before .if1 .taken,
+      c .before .if2 .taken,
     )
 
 returns-2 : tie.Need-returns-2
 returns-2 c =
     rw (
-        c .refuse .ensures,
-        c .before .before .if1 .taken,
-        c .before .if2 .left,
+      c .refuse .ensures,
+      c .before .before .if1 .taken,
+      c .before .if2 .left,
     )
 
 returns-3 : tie.Need-returns-3
 returns-3 c =
     rw (
-        c .send2 .ensures,
-        c .before .if1 .left,
+      c .send2 .ensures,
+      c .before .if1 .left,
     )
 
 pub send-own-spec : {M : Type 1} → statement M

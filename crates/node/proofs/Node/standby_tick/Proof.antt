@@ -11,15 +11,15 @@ listener-tick-requires c κs = search needs
 returns : tie.Need-returns
 returns c =
     rw (
-        c .caller-tick .ensures,
-        c .before .if1 .taken,
+      c .caller-tick .ensures,
+      c .before .if1 .taken,
     )
 
 returns-2 : tie.Need-returns-2
 returns-2 c =
     rw (
-        c .listener-tick .ensures,
-        c .before .if1 .left,
+      c .listener-tick .ensures,
+      c .before .if1 .left,
     )
 
 pub standby-tick-spec : {M : Type 1} → statement M

@@ -29,15 +29,15 @@ returns-2 c = rw (c .enum-told2 .given .1)
 returns-3 : tie.Need-returns-3
 returns-3 c =
     rw (
-        c .before .before .enum-told3 .given .1,
-        c .before .if1 .taken,
+      c .before .before .enum-told3 .given .1,
+      c .before .if1 .taken,
     )
 
 returns-4 : tie.Need-returns-4
 returns-4 c =
     rw (
-        c .before .before .enum-told3 .given .1,
-        c .before .if1 .left,
+      c .before .before .enum-told3 .given .1,
+      c .before .if1 .left,
     )
 
 pub standby-right-spec : {M : Type 1} → statement M

@@ -1,0 +1,48 @@
+// What master and node share: their states, and a table of sequence counts by ReqId.
+ghost use mathlib.Core.Path.{_≡_};
+ghost use lib.ListN.{getD, set};
+ghost use Rattle.machine.specs.Counts.{countsBelow};
+
+// The states of network management (ISO 20794-2, 9.3.2).
+pub enum State {
+    Normal,
+    Standby,
+    Sleep,
+}
+
+// ReqIds lie below this.
+pub const REQIDS: u8 = 128;
+
+// The count of a ReqId, 0 past the table.
+pub fn count_of(counts: [u8; 128], reqid: u8) -> u8
+    ensures { λ r. ⌜ r ≡ getD counts reqid 0 ⌝ }
+{
+    if reqid < REQIDS {
+        counts[reqid as usize]
+    } else {
+        0
+    }
+}
+
+// The table with another count of a ReqId, as it is past the table.
+pub fn with_count(mut counts: [u8; 128], reqid: u8, count: u8) -> [u8; 128]
+    ensures { λ r. ⌜ r ≡ set counts reqid count ⌝ }
+{
+    if reqid < REQIDS {
+        counts[reqid as usize] = count;
+    }
+    counts
+}
+
+// Whether every count lies below a limit. No exit, so that the loop is compiled to vector instructions.
+pub fn counts_below(counts: [u8; 128], limit: u8) -> bool
+    ensures { λ r. ⌜ r ≡ countsBelow limit counts ⌝ }
+{
+    let mut right: bool = true;
+    let mut i: usize = 0;
+    while i < 128 {
+        right = right & (counts[i] < limit);
+        i += 1;
+    }
+    right
+}

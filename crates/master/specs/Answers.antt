@@ -1,0 +1,64 @@
+-- Answers that reach the master.
+use Prim.Native.Nat.{ℕ, _+_, _-_, _%_}
+use mathlib.Core.Bool.{Bool}
+use lib.Dec.{ltb, eqb}
+use lib.ListN.{getD, set}
+use Rattle.folds.specs.Fold.{pick}
+use Rattle.machine.specs.declared.State.{State}
+use Rattle.plan.specs.declared.Row.{Row}
+use Rattle.plan.specs.declared.Lookup.{Lookup}
+use Rattle.plan.specs.Answers.{masterNumber, isCounted, accepts}
+use Rattle.master.specs.declared.Command.{Command}
+use Rattle.master.specs.declared.Answer.{Answer}
+use Rattle.master.specs.declared.Master.{Master}
+use Rattle.master.specs.declared.Reply.{Reply}
+use Rattle.master.specs.Changes.{withCounts, letGo, letAllGo, hold, callBack, refuse}
+
+-- "13 or 14: let the publisher's permission go, call back"
+abbrev pub damaged : ℕ → ℕ → Master → Reply
+damaged publisher number m = refuse (callBack (letGo publisher m)) number
+
+-- "report as lost (count − last − 1) modulo 4, or 0 if last was 4"; 3 is -1 modulo 4
+abbrev pub lostAfter : ℕ → ℕ → ℕ
+lostAfter last count = pick (ltb last 4) ((count + 3 - last) % 4) 0
+
+-- "wake bit 1: let all go, call back. Else permission bit 1: held with age 0. Else let go, call back"
+abbrev pub judged : ℕ → Bool → Bool → Master → Master
+judged publisher permission wake m =
+    pick wake (callBack (letAllGo m)) (pick permission (hold publisher m) (callBack (letGo publisher m)))
+
+-- "and store it"
+abbrev pub counted : ℕ → ℕ → Master → Master
+counted reqid count m = withCounts (set (m .counts) reqid count) m
+
+abbrev pub reports : ℕ → Master → Reply
+reports lost m = record { master = m; command = Command.Nothing; refusal = 0; node = 0; lost = lost }
+
+-- "Otherwise, where the row has a count ..; a row without one reports 0"
+abbrev pub wholeStep : Row → Answer → Master → Reply
+wholeStep row a m =
+    pick (isCounted row)
+    (reports (lostAfter (getD (m .counts) (row .reqid) 0) (a .count)) (judged (row .publisher) (a .permission) (a .wake) (counted (row .reqid) (a .count) m)))
+    (reports 0 (judged (row .publisher) (a .permission) (a .wake) m))
+
+-- "judged 12, 13, 14": 12 for "a master's row in an answer"
+abbrev pub rowStep : Row → Answer → Master → Reply
+rowStep row a m =
+    pick (eqb (row .publisher) masterNumber) (refuse m 12)
+    (pick (eqb (a .result) 0)
+    (pick (accepts row (a .length)) (wholeStep row a m) (damaged (row .publisher) 14 m))
+    (damaged (row .publisher) 13 m))
+
+-- 12 for "ReqId not in the plan"
+abbrev pub answerRow : Lookup → Answer → Master → Reply
+answerRow Lookup.Missing a m = refuse m 12
+answerRow (Lookup.Found row) a m = rowStep row a m
+
+-- "Answer (Normal only)"
+abbrev pub answerBy : State → Lookup → Answer → Master → Reply
+answerBy State.Normal row a m = answerRow row a m
+answerBy State.Standby row a m = refuse m 16
+answerBy State.Sleep row a m = refuse m 16
+
+abbrev pub answerStep : Lookup → Answer → Master → Reply
+answerStep row a m = answerBy (m .state) row a m

@@ -1,0 +1,82 @@
+-- The master's power-on, single changes, calling back, and replies.
+use Prim.Native.Nat.{ℕ}
+use mathlib.Core.Bool.{Bool, true, false}
+use mathlib.Core.List.{List}
+use lib.ListN.{set, replicate}
+use Rattle.machine.specs.declared.State.{State}
+use Rattle.master.specs.declared.Phase.{Phase}
+use Rattle.master.specs.declared.Hold.{Hold}
+use Rattle.master.specs.declared.Command.{Command}
+use Rattle.master.specs.declared.Master.{Master}
+use Rattle.master.specs.declared.Reply.{Reply}
+
+abbrev pub noHold : Hold
+noHold = record { held = false; age = 0 }
+
+abbrev pub noHolds : List Hold
+noHolds = replicate 16 noHold
+
+-- "last count 0 to 3 or 4 for none"
+abbrev pub noCounts : List ℕ
+noCounts = replicate 128 4
+
+-- "Power-on: Sleep, nothing held, own permission no, counts 4, numbers 0"
+abbrev pub powerOn : Master
+powerOn =
+    record { state = State.Sleep; phase = Phase.Open; permission = false; holds = noHolds; counts = noCounts; delay = 0; ticks = 0 }
+
+-- another state; "Each change of state or phase sets the delay to 0"
+abbrev pub inState : State → Master → Master
+inState state m =
+    record { state = state; phase = m .phase; permission = m .permission; holds = m .holds; counts = m .counts; delay = 0; ticks = m .ticks }
+
+abbrev pub inPhase : Phase → Master → Master
+inPhase phase m =
+    record { state = m .state; phase = phase; permission = m .permission; holds = m .holds; counts = m .counts; delay = 0; ticks = m .ticks }
+
+abbrev pub withPermission : Bool → Master → Master
+withPermission permitted m =
+    record { state = m .state; phase = m .phase; permission = permitted; holds = m .holds; counts = m .counts; delay = m .delay; ticks = m .ticks }
+
+abbrev pub withHolds : List Hold → Master → Master
+withHolds holds m =
+    record { state = m .state; phase = m .phase; permission = m .permission; holds = holds; counts = m .counts; delay = m .delay; ticks = m .ticks }
+
+abbrev pub withCounts : List ℕ → Master → Master
+withCounts counts m =
+    record { state = m .state; phase = m .phase; permission = m .permission; holds = m .holds; counts = counts; delay = m .delay; ticks = m .ticks }
+
+abbrev pub withDelay : ℕ → Master → Master
+withDelay delay m =
+    record { state = m .state; phase = m .phase; permission = m .permission; holds = m .holds; counts = m .counts; delay = delay; ticks = m .ticks }
+
+-- "let .. go"
+abbrev pub letGo : ℕ → Master → Master
+letGo node m = withHolds (set (m .holds) node noHold) m
+
+abbrev pub letAllGo : Master → Master
+letAllGo m = withHolds noHolds m
+
+-- "held with age 0"
+abbrev pub hold : ℕ → Master → Master
+hold node m = withHolds (set (m .holds) node (record { held = true; age = 0 })) m
+
+-- "Call back means: Sending becomes Withdrawn, Closing becomes Open"
+abbrev pub callBackBy : Phase → Master → Master
+callBackBy Phase.Open m = m
+callBackBy Phase.Sending m = inPhase Phase.Withdrawn m
+callBackBy Phase.Withdrawn m = m
+callBackBy Phase.Closing m = inPhase Phase.Open m
+
+abbrev pub callBack : Master → Master
+callBack m = callBackBy (m .phase) m
+
+abbrev pub commands : Command → Master → Reply
+commands command m = record { master = m; command = command; refusal = 0; node = 0; lost = 0 }
+
+abbrev pub silent : Master → Reply
+silent m = commands Command.Nothing m
+
+-- "A refused step returns the state as given and no command, lost 0"
+abbrev pub refuse : Master → ℕ → Reply
+refuse m number = record { master = m; command = Command.Nothing; refusal = number; node = 0; lost = 0 }

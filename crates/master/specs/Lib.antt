@@ -1,0 +1,7 @@
+pub mod Answers
+pub mod Changes
+pub mod Range
+pub mod Sleeping
+pub mod Step
+pub mod Ticks
+pub mod Waking

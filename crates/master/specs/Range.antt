@@ -1,0 +1,50 @@
+-- The limits of the master's fields, by which 11 is judged.
+use Prim.Native.Nat.{ℕ}
+use mathlib.Core.Bool.{Bool, true, false, _&&_}
+use mathlib.Core.List.{List}
+use lib.Dec.{leb, ltb, eqb}
+use lib.ListN.{getD}
+use Rattle.folds.specs.Fold.{pick, allTo}
+use Rattle.machine.specs.declared.State.{State}
+use Rattle.machine.specs.Counts.{countsBelow}
+use Rattle.plan.specs.declared.Times.{Times}
+use Rattle.master.specs.declared.Phase.{Phase}
+use Rattle.master.specs.declared.Hold.{Hold}
+use Rattle.master.specs.declared.Master.{Master}
+use Rattle.master.specs.Changes.{noHold}
+
+abbrev pub isOpen : Phase → Bool
+isOpen Phase.Open = true
+isOpen Phase.Sending = false
+isOpen Phase.Withdrawn = false
+isOpen Phase.Closing = false
+
+-- "phase .. (0 outside Normal)"
+abbrev pub phaseRight : State → Phase → Bool
+phaseRight State.Normal phase = true
+phaseRight State.Standby phase = isOpen phase
+phaseRight State.Sleep phase = isOpen phase
+
+-- "a delay below C in Standby, below D in Closing, else 0"
+abbrev pub delayRight : Times → State → Phase → ℕ → Bool
+delayRight t State.Normal Phase.Open delay = eqb delay 0
+delayRight t State.Normal Phase.Sending delay = eqb delay 0
+delayRight t State.Normal Phase.Withdrawn delay = eqb delay 0
+delayRight t State.Normal Phase.Closing delay = ltb delay (t .stop)
+delayRight t State.Standby phase delay = ltb delay (t .start)
+delayRight t State.Sleep phase delay = eqb delay 0
+
+-- "age 0 to W"; "Ages of nodes not held, and places from N on, are 0"
+abbrev pub holdRight : ℕ → ℕ → ℕ → Hold → Bool
+holdRight nodecount window node h = pick (h .held) (ltb node nodecount && leb (h .age) window) (eqb (h .age) 0)
+
+abbrev pub holdRightAt : ℕ → ℕ → List Hold → ℕ → Bool
+holdRightAt nodecount window holds node = holdRight nodecount window node (getD holds node noHold)
+
+unfoldable pub holdsRight : ℕ → ℕ → List Hold → Bool
+holdsRight nodecount window holds = allTo (holdRightAt nodecount window holds) 16
+
+-- "per ReqId a table of 128 places, last count 0 to 3 or 4 for none", and the others; any tick number of 32 bits
+unfoldable pub inRange : ℕ → Times → Master → Bool
+inRange nodecount t m =
+    phaseRight (m .state) (m .phase) && delayRight t (m .state) (m .phase) (m .delay) && countsBelow 5 (m .counts) && holdsRight nodecount (t .window) (m .holds)

@@ -1,0 +1,61 @@
+-- The master's ticks.
+use Prim.Native.Nat.{ℕ, _+_, _%_, _^_}
+use mathlib.Core.Bool.{Bool, true}
+use mathlib.Core.List.{List}
+use lib.Dec.{ltb}
+use lib.ListN.{getD}
+use Rattle.folds.specs.Fold.{pick, tab}
+use Rattle.machine.specs.declared.State.{State}
+use Rattle.plan.specs.declared.Times.{Times}
+use Rattle.master.specs.declared.Phase.{Phase}
+use Rattle.master.specs.declared.Hold.{Hold}
+use Rattle.master.specs.declared.Command.{Command}
+use Rattle.master.specs.declared.Master.{Master}
+use Rattle.master.specs.declared.Reply.{Reply}
+use Rattle.master.specs.Changes.{noHold, noCounts, inState, inPhase, withCounts, withDelay, letAllGo, silent, commands}
+
+-- "held ages up by one, and one above W is let go"
+abbrev pub older : ℕ → Hold → Hold
+older window h = pick (h .held) (pick (ltb (h .age) window) (record { held = true; age = h .age + 1 }) noHold) h
+
+abbrev pub olderAt : ℕ → List Hold → ℕ → Hold
+olderAt window holds k = older window (getD holds k noHold)
+
+unfoldable pub allOlder : ℕ → List Hold → List Hold
+allOlder window holds = tab 16 (olderAt window holds)
+
+-- "Tick, any state: tick number up by one", which "returns to 0 after 4,294,967,295"
+abbrev pub aged : ℕ → Master → Master
+aged window m =
+    record {
+      state = m .state;
+      phase = m .phase;
+      permission = m .permission;
+      holds = allOlder window (m .holds);
+      counts = m .counts;
+      delay = m .delay;
+      ticks = (m .ticks + 1) % 2 ^ 32;
+    }
+
+-- "Standby: at the C-th tick, command clock on, go Normal, counts all 4"
+abbrev pub standbyTick : ℕ → Master → Reply
+standbyTick start m =
+    pick (ltb (m .delay + 1) start) (silent (withDelay (m .delay + 1) m))
+    (commands Command.ClockOn (inPhase Phase.Open (inState State.Normal (withCounts noCounts m))))
+
+-- "Closing: at the D-th, command clock off, go Sleep, phase 0, let all go"
+abbrev pub closingTick : ℕ → Master → Reply
+closingTick stop m =
+    pick (ltb (m .delay + 1) stop) (silent (withDelay (m .delay + 1) m))
+    (commands Command.ClockOff (inPhase Phase.Open (inState State.Sleep (letAllGo m))))
+
+abbrev pub tickBy : Times → State → Phase → Master → Reply
+tickBy t State.Sleep phase m = silent m
+tickBy t State.Standby phase m = standbyTick (t .start) m
+tickBy t State.Normal Phase.Open m = silent m
+tickBy t State.Normal Phase.Sending m = silent m
+tickBy t State.Normal Phase.Withdrawn m = silent m
+tickBy t State.Normal Phase.Closing m = closingTick (t .stop) m
+
+abbrev pub tickStep : Times → Master → Reply
+tickStep t m = tickBy t (m .state) (m .phase) (aged (t .window) m)

@@ -1,0 +1,109 @@
+// Answers that reach the master.
+ghost use mathlib.Core.Path.{_≡_};
+ghost use Rattle.master.specs.Answers.{lostAfter, counted, damaged, judged, wholeStep, rowStep, answerRow, answerStep};
+use crate::Answer;
+use crate::Command;
+use crate::Master;
+use crate::Reply;
+use crate::refuse;
+use machine::State;
+use machine::count_of;
+use machine::with_count;
+use plan::Lookup;
+use plan::Plan;
+use plan::Row;
+
+// The answers lost between the last count and this one.
+fn lost_after(last: u8, count: u8) -> u8
+    ensures { λ r. ⌜ r ≡ lostAfter last count ⌝ }
+{
+    if last < Master::NO_COUNT {
+        (((count as u16) + 3 - (last as u16)) % 4) as u8
+    } else {
+        0
+    }
+}
+
+impl Master {
+    // A damaged answer, or one of a wrong length.
+    fn damaged(self, publisher: u8, refusal: u8) -> Reply
+        ensures { λ r. ⌜ r ≡ damaged publisher refusal self ⌝ }
+    {
+        refuse(self.let_go(publisher).call_back(), refusal)
+    }
+
+    // What the bits of a whole answer do.
+    fn judged(self, publisher: u8, permission: bool, wake: bool) -> Master
+        ensures { λ r. ⌜ r ≡ judged publisher permission wake self ⌝ }
+    {
+        if wake {
+            self.let_all_go().call_back()
+        } else {
+            if permission {
+                self.hold(publisher)
+            } else {
+                self.let_go(publisher).call_back()
+            }
+        }
+    }
+
+    fn whole(self, row: Row, answer: Answer) -> Reply
+        ensures { λ r. ⌜ r ≡ wholeStep row answer self ⌝ }
+    {
+        if row.is_counted() {
+            let old = self.counts;
+            let lost = lost_after(count_of(old, row.reqid), answer.count);
+            let counts = with_count(old, row.reqid, answer.count);
+            let stored = Master { counts, ..self };
+            Reply {
+                master: stored.judged(row.publisher, answer.permission, answer.wake),
+                command: Command::Nothing,
+                refusal: 0,
+                node: 0,
+                lost,
+            }
+        } else {
+            Reply {
+                master: self.judged(row.publisher, answer.permission, answer.wake),
+                command: Command::Nothing,
+                refusal: 0,
+                node: 0,
+                lost: 0,
+            }
+        }
+    }
+
+    // An answer of a row.
+    fn of_row(self, row: Row, answer: Answer) -> Reply
+        ensures { λ r. ⌜ r ≡ rowStep row answer self ⌝ }
+    {
+        if row.publisher == Plan::MASTER {
+            refuse(self, 12)
+        } else {
+            if answer.result == 0 {
+                if row.accepts(answer.length) {
+                    self.whole(row, answer)
+                } else {
+                    self.damaged(row.publisher, 14)
+                }
+            } else {
+                self.damaged(row.publisher, 13)
+            }
+        }
+    }
+
+    // An answer, with what the plan has for its ReqId.
+    pub fn answer(self, row: Lookup, answer: Answer) -> Reply
+        ensures { λ r. ⌜ r ≡ answerStep row answer self ⌝ }
+    {
+        let state = self.state;
+        match state {
+            State::Normal => match row {
+                Lookup::Missing => refuse(self, 12),
+                Lookup::Found(found) => self.of_row(found, answer),
+            },
+            State::Standby => refuse(self, 16),
+            State::Sleep => refuse(self, 16),
+        }
+    }
+}

@@ -1,0 +1,94 @@
+// Permissions that the master holds.
+ghost use mathlib.Core.Path.{_≡_};
+ghost use lib.ListN.{set};
+ghost use Rattle.folds.specs.Fold.{firstTo};
+ghost use Rattle.master.specs.Changes.{letGo, letAllGo, hold};
+ghost use Rattle.master.specs.Ticks.{older, allOlder};
+ghost use Rattle.master.specs.Sleeping.{notHeld};
+use crate::Hold;
+use crate::Master;
+
+fn with_hold(mut holds: [Hold; 16], node: u8, hold: Hold) -> [Hold; 16]
+    ensures { λ r. ⌜ r ≡ set holds node hold ⌝ }
+{
+    if node < 16 {
+        holds[node as usize] = hold;
+    }
+    holds
+}
+
+fn older(window: u16, hold: Hold) -> Hold
+    ensures { λ r. ⌜ r ≡ older window hold ⌝ }
+{
+    if hold.held {
+        if hold.age < window {
+            Hold {
+                held: true,
+                age: hold.age + 1,
+            }
+        } else {
+            Master::NO_HOLD
+        }
+    } else {
+        hold
+    }
+}
+
+pub(crate) fn all_older(window: u16, holds: [Hold; 16]) -> [Hold; 16]
+    ensures { λ r. ⌜ r ≡ allOlder window holds ⌝ }
+{
+    let mut next = [Master::NO_HOLD; 16];
+    let mut i: usize = 0;
+    while i < 16 {
+        let hold = holds[i];
+        next[i] = older(window, hold);
+        i += 1;
+    }
+    next
+}
+
+// The lowest node whose permission is not held, the number of nodes where each is.
+pub(crate) fn first_not_held(holds: [Hold; 16], nodecount: u8) -> u8
+    ensures { λ r. ⌜ r ≡ firstTo (notHeld holds) nodecount ⌝ }
+{
+    let mut i: u8 = 0;
+    while i < nodecount {
+        if 16 <= i {
+            return i;
+        }
+        let hold = holds[i as usize];
+        if !hold.held {
+            return i;
+        }
+        i += 1;
+    }
+    nodecount
+}
+
+impl Master {
+    pub(crate) fn let_go(self, node: u8) -> Master
+        ensures { λ r. ⌜ r ≡ letGo node self ⌝ }
+    {
+        let old = self.holds;
+        let holds = with_hold(old, node, Master::NO_HOLD);
+        Master { holds, ..self }
+    }
+
+    pub(crate) fn let_all_go(self) -> Master
+        ensures { λ r. ⌜ r ≡ letAllGo self ⌝ }
+    {
+        Master {
+            holds: [Master::NO_HOLD; 16],
+            ..self
+        }
+    }
+
+    pub(crate) fn hold(self, node: u8) -> Master
+        ensures { λ r. ⌜ r ≡ hold node self ⌝ }
+    {
+        let old = self.holds;
+        let given = Hold { held: true, age: 0 };
+        let holds = with_hold(old, node, given);
+        Master { holds, ..self }
+    }
+}

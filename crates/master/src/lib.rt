@@ -1,0 +1,199 @@
+// The master machine.
+ghost use mathlib.Core.Path.{_≡_};
+ghost use Rattle.master.specs.Changes.{powerOn, silent, commands, refuse};
+ghost use Rattle.master.specs.Step.{eventRight, act, masterStep};
+use machine::State;
+use plan::Plan;
+use plan::plan_refusal;
+
+mod answers;
+mod holds;
+mod range;
+mod sleeping;
+mod ticks;
+mod waking;
+
+// How far a sleep message has come.
+pub enum Phase {
+    Open,
+    // its result is awaited
+    Sending,
+    // called back, its result still awaited
+    Withdrawn,
+    // sent: the clock stops after D ticks
+    Closing,
+}
+
+pub enum Command {
+    Nothing,
+    ClockOn,
+    ClockOff,
+    SleepMessage,
+}
+
+// An answer that reached the master.
+pub struct Answer {
+    pub reqid: u8,
+    // 0 where it is undamaged
+    pub result: u16,
+    pub length: u16,
+    pub count: u8,
+    pub permission: bool,
+    pub wake: bool,
+}
+
+pub enum Event {
+    Tick,
+    Answer(Answer),
+    // a wake-up pulse
+    Pulse,
+    // the application's ask to wake
+    WakeAsk,
+    // the application's permission to sleep
+    Permission(bool),
+    // the application's ask to send the sleep message
+    SleepAsk,
+    // whether the sleep message was sent
+    SendResult(bool),
+}
+
+// A node's permission to sleep: held or not, and the ticks since it was given.
+pub struct Hold {
+    pub held: bool,
+    pub age: u16,
+}
+
+pub struct Master {
+    pub state: State,
+    pub phase: Phase,
+    pub permission: bool,
+    pub holds: [Hold; 16],
+    // the last count per ReqId, NO_COUNT for none
+    pub counts: [u8; 128],
+    // ticks in Standby or Closing
+    pub delay: u16,
+    // the tick number, which returns to 0 after 4,294,967,295
+    pub ticks: u32,
+}
+
+pub struct Reply {
+    pub master: Master,
+    pub command: Command,
+    pub refusal: u8,
+    // the node that 20 names
+    pub node: u8,
+    // answers lost before this one
+    pub lost: u8,
+}
+
+fn commands(master: Master, command: Command) -> Reply
+    ensures { λ r. ⌜ r ≡ commands command master ⌝ }
+{
+    Reply {
+        master,
+        command,
+        refusal: 0,
+        node: 0,
+        lost: 0,
+    }
+}
+
+fn silent(master: Master) -> Reply
+    ensures { λ r. ⌜ r ≡ silent master ⌝ }
+{
+    commands(master, Command::Nothing)
+}
+
+fn refuse(master: Master, refusal: u8) -> Reply
+    ensures { λ r. ⌜ r ≡ refuse master refusal ⌝ }
+{
+    Reply {
+        master,
+        command: Command::Nothing,
+        refusal,
+        node: 0,
+        lost: 0,
+    }
+}
+
+fn is_right(event: Event) -> bool
+    ensures { λ r. ⌜ r ≡ eventRight event ⌝ }
+{
+    match event {
+        Event::Tick => true,
+        Event::Answer(answer) => {
+            (answer.reqid < machine::REQIDS) & (answer.count < Master::NO_COUNT)
+        }
+        Event::Pulse => true,
+        Event::WakeAsk => true,
+        Event::Permission(_) => true,
+        Event::SleepAsk => true,
+        Event::SendResult(_) => true,
+    }
+}
+
+impl Master {
+    // Counts lie below this, which stands for no count.
+    pub const NO_COUNT: u8 = 4;
+    // A permission that is not held.
+    pub const NO_HOLD: Hold = Hold {
+        held: false,
+        age: 0,
+    };
+
+    pub fn power_on() -> Master
+        ensures { λ r. ⌜ r ≡ powerOn ⌝ }
+    {
+        Master {
+            state: State::Sleep,
+            phase: Phase::Open,
+            permission: false,
+            holds: [Master::NO_HOLD; 16],
+            counts: [Master::NO_COUNT; 128],
+            delay: 0,
+            ticks: 0,
+        }
+    }
+
+    // What an event does once plan, state and event are judged.
+    fn act(self, plan: Plan, event: Event) -> Reply
+        ensures { λ r. ⌜ r ≡ act plan self event ⌝ }
+    {
+        match event {
+            Event::Tick => {
+                let times = plan.times;
+                self.tick(times)
+            }
+            Event::Answer(answer) => {
+                let row = plan::find_row(plan, answer.reqid);
+                self.answer(row, answer)
+            }
+            Event::Pulse => self.wake_up(),
+            Event::WakeAsk => self.wake_up(),
+            Event::Permission(permitted) => self.permit(permitted),
+            Event::SleepAsk => self.sleep_ask(plan.nodecount),
+            Event::SendResult(sent) => self.send_result(sent),
+        }
+    }
+
+    // A step of the master under a plan.
+    pub fn step(self, plan: Plan, event: Event) -> Reply
+        ensures { λ r. ⌜ r ≡ masterStep plan self event ⌝ }
+    {
+        let refusal = plan_refusal(plan);
+        if refusal == 0 {
+            let times = plan.times;
+            if self.in_range(plan.nodecount, times) {
+                if is_right(event) {
+                    self.act(plan, event)
+                } else {
+                    refuse(self, 15)
+                }
+            } else {
+                refuse(self, 11)
+            }
+        } else {
+            refuse(self, refusal)
+        }
+    }
+}

@@ -1,0 +1,83 @@
+// The limits of the master's fields.
+ghost use mathlib.Core.Path.{_≡_};
+ghost use Rattle.master.specs.Range.{phaseRight, delayRight, holdRight, holdsRight, inRange};
+use crate::Hold;
+use crate::Master;
+use crate::Phase;
+use machine::State;
+use machine::counts_below;
+use plan::Times;
+
+fn phase_right(state: State, phase: Phase) -> bool
+    ensures { λ r. ⌜ r ≡ phaseRight state phase ⌝ }
+{
+    match state {
+        State::Normal => true,
+        State::Standby => match phase {
+            Phase::Open => true,
+            Phase::Sending => false,
+            Phase::Withdrawn => false,
+            Phase::Closing => false,
+        },
+        State::Sleep => match phase {
+            Phase::Open => true,
+            Phase::Sending => false,
+            Phase::Withdrawn => false,
+            Phase::Closing => false,
+        },
+    }
+}
+
+fn delay_right(times: Times, state: State, phase: Phase, delay: u16) -> bool
+    ensures { λ r. ⌜ r ≡ delayRight times state phase delay ⌝ }
+{
+    match state {
+        State::Normal => match phase {
+            Phase::Open => delay == 0,
+            Phase::Sending => delay == 0,
+            Phase::Withdrawn => delay == 0,
+            Phase::Closing => delay < times.stop,
+        },
+        State::Standby => delay < times.start,
+        State::Sleep => delay == 0,
+    }
+}
+
+fn hold_right(nodecount: u8, window: u16, node: usize, hold: Hold) -> bool
+    ensures { λ r. ⌜ r ≡ holdRight nodecount window node hold ⌝ }
+{
+    if hold.held {
+        (node < (nodecount as usize)) & (hold.age <= window)
+    } else {
+        hold.age == 0
+    }
+}
+
+fn holds_right(nodecount: u8, window: u16, holds: [Hold; 16]) -> bool
+    ensures { λ r. ⌜ r ≡ holdsRight nodecount window holds ⌝ }
+{
+    let mut i: usize = 0;
+    while i < 16 {
+        let hold = holds[i];
+        if !hold_right(nodecount, window, i, hold) {
+            return false;
+        }
+        i += 1;
+    }
+    true
+}
+
+impl Master {
+    pub fn in_range(self, nodecount: u8, times: Times) -> bool
+        ensures { λ r. ⌜ r ≡ inRange nodecount times self ⌝ }
+    {
+        let state = self.state;
+        let phase = self.phase;
+        let counts = self.counts;
+        let holds = self.holds;
+        phase_right(state, phase)
+            & delay_right(times, state, phase, self.delay)
+            & counts_below(counts, Master::NO_COUNT + 1)
+            & holds_right(nodecount, times.window, holds)
+    }
+}

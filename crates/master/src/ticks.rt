@@ -1,0 +1,87 @@
+// Ticks of the master.
+ghost use mathlib.Core.Path.{_≡_};
+ghost use Rattle.master.specs.Ticks.{aged, standbyTick, closingTick, tickStep};
+use crate::Command;
+use crate::Master;
+use crate::Phase;
+use crate::Reply;
+use crate::commands;
+use crate::holds;
+use crate::silent;
+use machine::State;
+use plan::Times;
+
+impl Master {
+    // The tick number wraps on purpose; ages are counted apart from it.
+    fn aged(self, window: u16) -> Master
+        ensures { λ r. ⌜ r ≡ aged window self ⌝ }
+    {
+        let young = self.holds;
+        let older = holds::all_older(window, young);
+        Master {
+            holds: older,
+            ticks: std::num::wrapping_add_u32(self.ticks, 1),
+            ..self
+        }
+    }
+
+    fn standby_tick(self, start: u16) -> Reply
+        ensures { λ r. ⌜ r ≡ standbyTick start self ⌝ }
+    {
+        let delay = self.delay;
+        if (delay as u32) + 1 < (start as u32) {
+            silent(Master {
+                delay: delay + 1,
+                ..self
+            })
+        } else {
+            let awake = Master {
+                state: State::Normal,
+                phase: Phase::Open,
+                counts: [Master::NO_COUNT; 128],
+                delay: 0,
+                ..self
+            };
+            commands(awake, Command::ClockOn)
+        }
+    }
+
+    fn closing_tick(self, stop: u16) -> Reply
+        ensures { λ r. ⌜ r ≡ closingTick stop self ⌝ }
+    {
+        let delay = self.delay;
+        if (delay as u32) + 1 < (stop as u32) {
+            silent(Master {
+                delay: delay + 1,
+                ..self
+            })
+        } else {
+            let asleep = Master {
+                state: State::Sleep,
+                phase: Phase::Open,
+                holds: [Master::NO_HOLD; 16],
+                delay: 0,
+                ..self
+            };
+            commands(asleep, Command::ClockOff)
+        }
+    }
+
+    pub fn tick(self, times: Times) -> Reply
+        ensures { λ r. ⌜ r ≡ tickStep times self ⌝ }
+    {
+        let state = self.state;
+        let phase = self.phase;
+        let next = self.aged(times.window);
+        match state {
+            State::Sleep => silent(next),
+            State::Standby => next.standby_tick(times.start),
+            State::Normal => match phase {
+                Phase::Open => silent(next),
+                Phase::Sending => silent(next),
+                Phase::Withdrawn => silent(next),
+                Phase::Closing => next.closing_tick(times.stop),
+            },
+        }
+    }
+}
