@@ -38,3 +38,25 @@ module _ (f : ℕ → Bool) where
       let a : anyTo f (suc n) ≡ true = rw (e, h) in
       let b : firstTo f (suc n) ≡ n = rw (e, h) in
       any-kept m (suc n) (omega arith) a .1 ∙ b
+
+  -- where the test holds of some number, the first is below the bound
+  any-below : (n : ℕ) → anyTo f n ≡ true → firstTo f n < n
+  unfolding firstTo anyTo
+  any-below zero e = let z : _≡_ {A = ℕ} 0 1 = cc in absurd (omega arith)
+  any-below (suc n) e = go (anyTo f n) refl (f n) refl (any-below n)
+    where
+      go : (a : Bool) → anyTo f n ≡ a → (b : Bool) → f n ≡ b → (anyTo f n ≡ true → firstTo f n < n) → firstTo f (suc n) < suc n
+      go true p b q ih = rw p (omega (arith, ih p))
+      go false p true q ih = rw (p, q) (omega arith)
+      go false p false q ih = let z : _≡_ {A = ℕ} 0 1 = cc (rw (p, q) at e) in absurd (omega arith)
+
+  -- what is below the bound is one of which the test holds
+  pub first-holds : (n : ℕ) → firstTo f n < n → f (firstTo f n) ≡ true
+  unfolding firstTo anyTo
+  first-holds zero l = absurd (omega arith)
+  first-holds (suc n) l = go (anyTo f n) refl (f n) refl (first-holds n)
+    where
+      go : (a : Bool) → anyTo f n ≡ a → (b : Bool) → f n ≡ b → (firstTo f n < n → f (firstTo f n) ≡ true) → f (firstTo f (suc n)) ≡ true
+      go true p b q ih = rw p (ih (any-below n p))
+      go false p true q ih = rw (p, q) q
+      go false p false q ih = let z : suc n < suc n = rw (p, q) at l in absurd (omega arith)

@@ -1,5 +1,6 @@
 pub mod Answers
 pub mod Changes
+pub mod Clock
 pub mod Range
 pub mod Sleeping
 pub mod Step

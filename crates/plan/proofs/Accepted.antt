@@ -1,10 +1,11 @@
 -- What an accepted plan keeps.
-use Prim.Native.Nat.{_≤_}
+use Prim.Native.Nat.{ℕ, _≤_}
 use mathlib.Core.Path.{_≡_}
 use mathlib.Core.Bool.{true}
 use native.Mathlib.Omega.{arith}
 use Rattle.folds.proofs.AllAny.{halves}
 use Rattle.folds.proofs.Rules.{none-only}
+use Rattle.plan.specs.declared.Times.{Times}
 use Rattle.plan.specs.declared.Plan.{Plan}
 use Rattle.plan.specs.Rules.{revisionRight, timesRight, nodesRight, rowsRight, allPublish, planRules, planRefusal}
 
@@ -32,3 +33,30 @@ rows-few p e = search halves
 pub rows-some : (p : Plan) → rowsRight p ≡ true → 1 ≤ p .rowcount
 unfolding rowsRight
 rows-some p e = search halves
+
+-- each time of an accepted plan is at least 1 and at most 30,000
+pub record InTime (t : ℕ) : Type 0 where
+  pub least : 1 ≤ t
+  pub most : t ≤ 30000
+
+pub record TimesFit (t : Times) : Type 0 where
+  pub window : InTime (t .window)
+  pub stop : InTime (t .stop)
+  pub sleep : InTime (t .sleep)
+  pub quiet : InTime (t .quiet)
+  pub recovery : InTime (t .recovery)
+  pub space : InTime (t .space)
+  pub start : InTime (t .start)
+
+pub times-fit : (t : Times) → timesRight t ≡ true → TimesFit t
+unfolding timesRight
+times-fit t e =
+    record {
+      window = record { least = search halves depth 10; most = search halves depth 10 };
+      stop = record { least = search halves depth 10; most = search halves depth 10 };
+      sleep = record { least = search halves depth 10; most = search halves depth 10 };
+      quiet = record { least = search halves depth 10; most = search halves depth 10 };
+      recovery = record { least = search halves depth 10; most = search halves depth 10 };
+      space = record { least = search halves depth 10; most = search halves depth 10 };
+      start = record { least = search halves depth 10; most = search halves depth 10 };
+    }

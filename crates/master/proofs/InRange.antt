@@ -1,0 +1,272 @@
+-- From a state in range, under an accepted plan, every step gives a state in range.
+use Prim.Native.Nat.{ℕ, _+_, _-_, _%_, _≤_, _<_}
+use mathlib.Core.Path.{_≡_, refl, ap, sym, _∙_}
+use mathlib.Core.Bool.{Bool, true, false, _&&_}
+use mathlib.Core.List.{List}
+use lib.Dec.{leb, ltb, eqb}
+use lib.ListN.{getD, set, length, replicate, getD-replicate}
+use lib.Seq.{getD-set-same, getD-set-other, set-out}
+use native.Mathlib.Omega.{arith}
+use native.Mathlib.Decide.{decLt, ℕ-discrete}
+use borrow.Author.Tests.{lt-ltb, le-leb, leb-true, ltb-true, ltb-false}
+use Rattle.folds.specs.Fold.{pick, allTo, firstTo}
+use Rattle.folds.proofs.AllAny.{and-l, and-r, all-at, all-intro}
+use Rattle.folds.proofs.Choices.{by-test}
+use Rattle.folds.proofs.Tables.{getD-tab}
+use Rattle.machine.specs.declared.State.{State}
+use Rattle.machine.specs.Counts.{countsBelow}
+use Rattle.machine.proofs.CountTables.{counts-set}
+use Rattle.plan.specs.declared.Row.{Row}
+use Rattle.plan.specs.declared.Times.{Times}
+use Rattle.plan.specs.declared.Lookup.{Lookup}
+use Rattle.plan.specs.declared.Plan.{Plan}
+use Rattle.plan.specs.Rules.{planRefusal, rowsRight}
+use Rattle.plan.specs.Answers.{masterNumber, isCounted, accepts}
+use Rattle.plan.specs.Find.{findRow}
+use Rattle.plan.proofs.Accepted.{accepted, TimesFit, times-fit}
+use Rattle.plan.proofs.Lookups.{found-publisher}
+use Rattle.master.specs.declared.Phase.{Phase}
+use Rattle.master.specs.declared.Hold.{Hold}
+use Rattle.master.specs.declared.Answer.{Answer}
+use Rattle.master.specs.declared.Master.{Master}
+use Rattle.master.specs.declared.Event.{Event}
+use Rattle.master.specs.declared.Reply.{Reply}
+use Rattle.master.specs.Changes.{noHold, noHolds, noCounts, powerOn, inPhase, withPermission, withHolds, letGo, letAllGo, hold, callBackBy, callBack, refuse}
+use Rattle.master.specs.Range.{isOpen, phaseRight, delayRight, holdRight, holdRightAt, holdsRight, inRange}
+use Rattle.master.specs.Ticks.{older, olderAt, allOlder, aged, standbyTick, closingTick, tickBy}
+use Rattle.master.specs.Waking.{wakeUpBy, permissionStep}
+use Rattle.master.specs.Sleeping.{notHeld, openAsk, sleepAskBy, sendResultBy}
+use Rattle.master.specs.Answers.{damaged, judged, counted, wholeStep, rowStep, answerRow, answerBy}
+use Rattle.master.specs.Step.{eventRight, act, masterStep}
+
+-- what a state in range keeps
+pub record Fits (nodecount : ℕ) (t : Times) (m : Master) : Type 0 where
+  pub phase : phaseRight (m .state) (m .phase) ≡ true
+  pub delay : delayRight t (m .state) (m .phase) (m .delay) ≡ true
+  pub counts : countsBelow 5 (m .counts) ≡ true
+  pub holds : holdsRight nodecount (t .window) (m .holds) ≡ true
+
+pub fits : (nodecount : ℕ) (t : Times) (m : Master) → inRange nodecount t m ≡ true → Fits nodecount t m
+unfolding inRange
+fits nodecount t m e =
+    let p = phaseRight (m .state) (m .phase) in
+    let d = delayRight t (m .state) (m .phase) (m .delay) in
+    let c = countsBelow 5 (m .counts) in
+    let h = holdsRight nodecount (t .window) (m .holds) in
+    let pdc = and-l (p && d && c) h e in
+    let pd = and-l (p && d) c pdc in
+    record { phase = and-l p d pd; delay = and-r p d pd; counts = and-r (p && d) c pdc; holds = and-r (p && d && c) h e }
+
+pub in-range : (nodecount : ℕ) (t : Times) (m : Master) → Fits nodecount t m → inRange nodecount t m ≡ true
+unfolding inRange
+in-range nodecount t m f = rw (f .phase, f .delay, f .counts, f .holds)
+
+no-counts : countsBelow 5 noCounts ≡ true
+unfolding countsBelow allTo
+no-counts = refl
+
+module _ (nodecount window : ℕ) where
+  -- permissions that keep the limits keep them at each place
+  hold-at : (holds : List Hold) (k : ℕ) → holdsRight nodecount window holds ≡ true → k < 16 → holdRight nodecount window k (getD holds k noHold) ≡ true
+  unfolding holdsRight
+  hold-at holds k e l = all-at (holdRightAt nodecount window holds) 16 e k l
+
+  none-right : holdsRight nodecount window noHolds ≡ true
+  unfolding holdsRight
+  none-right = all-intro (holdRightAt nodecount window noHolds) 16 (λ k l. ap (holdRight nodecount window k) (getD-replicate 16 k noHold noHold l))
+
+  set-right : (holds : List Hold) (i : ℕ) (h : Hold) → holdsRight nodecount window holds ≡ true → holdRight nodecount window i h ≡ true → holdsRight nodecount window (set holds i h) ≡ true
+  unfolding holdsRight
+  set-right holds i h e r = all-intro (holdRightAt nodecount window (set holds i h)) 16 (λ k l. at k l (ℕ-discrete k i) (decLt i (length holds)))
+    where
+      at : (k : ℕ) → k < 16 → Dec (k ≡ i) → Dec (i < length holds) → holdRight nodecount window k (getD (set holds i h) k noHold) ≡ true
+      at k l (no n) q = rw (getD-set-other holds i k h noHold n) (hold-at holds k e l)
+      at k l (yes z) (yes q) = rw (z, getD-set-same holds i h noHold q) r
+      at k l (yes z) (no q) = rw (set-out holds i h (omega arith)) (hold-at holds k e l)
+
+  older-right : (k : ℕ) (h : Hold) → holdRight nodecount window k h ≡ true → holdRight nodecount window k (older window h) ≡ true
+  older-right k h =
+      by-test (λ (x : Hold). holdRight nodecount window k h ≡ true → holdRight nodecount window k x ≡ true) (h .held)
+      (λ y. by-test (λ (x : Hold). holdRight nodecount window k h ≡ true → holdRight nodecount window k x ≡ true) (ltb (h .age) window)
+          (λ l r.
+              let a : (ltb k nodecount && leb (h .age) window) ≡ true = rw y at r in
+              rw (and-l (ltb k nodecount) (leb (h .age) window) a, le-leb (h .age + 1) window (omega (arith, ltb-true (h .age) window l))))
+          (λ l r. refl))
+      (λ y r. r)
+
+  all-older-right : (holds : List Hold) → holdsRight nodecount window holds ≡ true → holdsRight nodecount window (allOlder window holds) ≡ true
+  unfolding holdsRight allOlder
+  all-older-right holds e =
+      all-intro (holdRightAt nodecount window (allOlder window holds)) 16
+      (λ k l. ap (holdRight nodecount window k) (getD-tab 16 (olderAt window holds) k noHold l) ∙ older-right k (getD holds k noHold) (hold-at holds k e l))
+
+module _ (nodecount : ℕ) (t : Times) (a : TimesFit t) where
+  abbrev Kept : Reply → Type 0
+  Kept r = Fits nodecount t (r .master)
+
+  -- a change of the permissions alone
+  holds-fit : (holds : List Hold) (m : Master) → Fits nodecount t m → holdsRight nodecount (t .window) holds ≡ true → Fits nodecount t (withHolds holds m)
+  holds-fit holds m f h = record { phase = f .phase; delay = f .delay; counts = f .counts; holds = h }
+
+  let-go-fits : (k : ℕ) (m : Master) → Fits nodecount t m → Fits nodecount t (letGo k m)
+  let-go-fits k m f = holds-fit (set (m .holds) k noHold) m f (set-right nodecount (t .window) (m .holds) k noHold (f .holds) refl)
+
+  let-all-go-fits : (m : Master) → Fits nodecount t m → Fits nodecount t (letAllGo m)
+  let-all-go-fits m f = holds-fit noHolds m f (none-right nodecount (t .window))
+
+  hold-fits : (k : ℕ) (m : Master) → k < nodecount → Fits nodecount t m → Fits nodecount t (hold k m)
+  hold-fits k m l f =
+      holds-fit (set (m .holds) k (record { held = true; age = 0 })) m f
+      (set-right nodecount (t .window) (m .holds) k (record { held = true; age = 0 }) (f .holds) (rw (lt-ltb k nodecount l, le-leb 0 (t .window) (omega arith))))
+
+  -- a phase of Normal, delay 0
+  phase-fits : (phase : Phase) (m : Master) → m .state ≡ State.Normal → Fits nodecount t m → Fits nodecount t (inPhase phase m)
+  phase-fits phase m e f = record { phase = rw e; delay = rw e (zero-fits phase); counts = f .counts; holds = f .holds }
+    where
+      zero-fits : (q : Phase) → delayRight t State.Normal q 0 ≡ true
+      zero-fits Phase.Open = refl
+      zero-fits Phase.Sending = refl
+      zero-fits Phase.Withdrawn = refl
+      zero-fits Phase.Closing = lt-ltb 0 (t .stop) (omega (arith, a .stop .least))
+
+  -- calling back changes a phase only in Normal, since every other state is Open
+  call-back-fits : (m : Master) → Fits nodecount t m → Fits nodecount t (callBack m)
+  call-back-fits m f = go (m .state) refl (m .phase) refl
+    where
+      other : (s : State) → m .state ≡ s → (q : Phase) → m .phase ≡ q → isOpen q ≡ false → phaseRight s q ≡ isOpen q → Fits nodecount t (callBackBy q m)
+      other s e q w n h = let z : _≡_ {A = ℕ} 0 1 = cc (f .phase, ap (λ x. phaseRight x (m .phase)) e, ap (phaseRight s) w, h, n) in absurd (omega arith)
+
+      go : (s : State) → m .state ≡ s → (q : Phase) → m .phase ≡ q → Fits nodecount t (callBackBy q m)
+      go s e Phase.Open w = f
+      go s e Phase.Withdrawn w = f
+      go State.Normal e Phase.Sending w = phase-fits Phase.Withdrawn m e f
+      go State.Normal e Phase.Closing w = phase-fits Phase.Open m e f
+      go State.Standby e Phase.Sending w = other State.Standby e Phase.Sending w refl refl
+      go State.Standby e Phase.Closing w = other State.Standby e Phase.Closing w refl refl
+      go State.Sleep e Phase.Sending w = other State.Sleep e Phase.Sending w refl refl
+      go State.Sleep e Phase.Closing w = other State.Sleep e Phase.Closing w refl refl
+
+  aged-fits : (m : Master) → Fits nodecount t m → Fits nodecount t (aged (t .window) m)
+  aged-fits m f = record { phase = f .phase; delay = f .delay; counts = f .counts; holds = all-older-right nodecount (t .window) (m .holds) (f .holds) }
+
+  tick-fits : (m : Master) → Fits nodecount t m → Kept (tickBy t (m .state) (m .phase) m)
+  tick-fits m f = go (m .state) refl (m .phase) refl
+    where
+      go : (s : State) → m .state ≡ s → (q : Phase) → m .phase ≡ q → Kept (tickBy t s q m)
+      go State.Sleep e q w = f
+      go State.Standby e q w =
+          by-test Kept (ltb (m .delay + 1) (t .start))
+          (λ l. record { phase = f .phase; delay = rw e l; counts = f .counts; holds = f .holds })
+          (λ l. record { phase = refl; delay = refl; counts = no-counts; holds = f .holds })
+      go State.Normal e Phase.Open w = f
+      go State.Normal e Phase.Sending w = f
+      go State.Normal e Phase.Withdrawn w = f
+      go State.Normal e Phase.Closing w =
+          by-test Kept (ltb (m .delay + 1) (t .stop))
+          (λ l. record { phase = f .phase; delay = rw (e, w) l; counts = f .counts; holds = f .holds })
+          (λ l. record { phase = refl; delay = refl; counts = f .counts; holds = none-right nodecount (t .window) })
+
+  wake-up-fits : (m : Master) → Fits nodecount t m → Kept (wakeUpBy (m .state) m)
+  wake-up-fits m f = go (m .state) refl
+    where
+      go : (s : State) → m .state ≡ s → Kept (wakeUpBy s m)
+      go State.Normal e = call-back-fits (letAllGo m) (let-all-go-fits m f)
+      go State.Standby e = f
+      go State.Sleep e =
+          record { phase = rw e at (f .phase); delay = lt-ltb 0 (t .start) (omega (arith, a .start .least)); counts = f .counts; holds = f .holds }
+
+  permission-fits : (permitted : Bool) (m : Master) → Fits nodecount t m → Kept (permissionStep permitted m)
+  permission-fits true m f = record { phase = f .phase; delay = f .delay; counts = f .counts; holds = f .holds }
+  permission-fits false m f =
+      call-back-fits (withPermission false m) (record { phase = f .phase; delay = f .delay; counts = f .counts; holds = f .holds })
+
+  sleep-ask-fits : (m : Master) → Fits nodecount t m → Kept (sleepAskBy nodecount (m .state) (m .phase) m)
+  sleep-ask-fits m f = go (m .state) refl (m .phase)
+    where
+      go : (s : State) → m .state ≡ s → (q : Phase) → Kept (sleepAskBy nodecount s q m)
+      go State.Normal e Phase.Open =
+          by-test Kept (m .permission)
+          (λ y. by-test Kept (ltb (firstTo (notHeld (m .holds)) nodecount) nodecount) (λ l. f) (λ l. phase-fits Phase.Sending m e f))
+          (λ y. f)
+      go State.Normal e Phase.Sending = f
+      go State.Normal e Phase.Withdrawn = f
+      go State.Normal e Phase.Closing = f
+      go State.Standby e q = f
+      go State.Sleep e q = f
+
+  send-result-fits : (sent : Bool) (m : Master) → Fits nodecount t m → Kept (sendResultBy sent (m .state) (m .phase) m)
+  send-result-fits sent m f = go sent (m .state) refl (m .phase)
+    where
+      go : (b : Bool) (s : State) → m .state ≡ s → (q : Phase) → Kept (sendResultBy b s q m)
+      go b State.Normal e Phase.Open = f
+      go true State.Normal e Phase.Sending = phase-fits Phase.Closing m e f
+      go false State.Normal e Phase.Sending = phase-fits Phase.Open m e f
+      go b State.Normal e Phase.Withdrawn = phase-fits Phase.Open m e f
+      go b State.Normal e Phase.Closing = f
+      go b State.Standby e q = f
+      go b State.Sleep e q = f
+
+  judged-fits : (k : ℕ) (permission wake : Bool) (m : Master) → k < nodecount → Fits nodecount t m → Fits nodecount t (judged k permission wake m)
+  judged-fits k permission wake m l f =
+      by-test (Fits nodecount t) wake
+      (λ w. call-back-fits (letAllGo m) (let-all-go-fits m f))
+      (λ w. by-test (Fits nodecount t) permission (λ y. hold-fits k m l f) (λ y. call-back-fits (letGo k m) (let-go-fits k m f)))
+
+  damaged-fits : (k number : ℕ) (m : Master) → Fits nodecount t m → Kept (damaged k number m)
+  damaged-fits k number m f = call-back-fits (letGo k m) (let-go-fits k m f)
+
+  whole-fits : (row : Row) (x : Answer) (m : Master) → row .publisher < nodecount → x .count < 4 → Fits nodecount t m → Kept (wholeStep row x m)
+  whole-fits row x m l c f =
+      by-test Kept (isCounted row)
+      (λ y. judged-fits (row .publisher) (x .permission) (x .wake) (counted (row .reqid) (x .count) m) l
+          (record { phase = f .phase; delay = f .delay; counts = counts-set 5 (m .counts) (row .reqid) (x .count) (f .counts) (omega arith); holds = f .holds }))
+      (λ y. judged-fits (row .publisher) (x .permission) (x .wake) m l f)
+
+  row-fits : (row : Row) (x : Answer) (m : Master) → (eqb (row .publisher) masterNumber ≡ false → row .publisher < nodecount) → x .count < 4 → Fits nodecount t m → Kept (rowStep row x m)
+  row-fits row x m l c f =
+      by-test Kept (eqb (row .publisher) masterNumber)
+      (λ y. f)
+      (λ y. by-test Kept (eqb (x .result) 0)
+          (λ z. by-test Kept (accepts row (x .length)) (λ w. whole-fits row x m (l y) c f) (λ w. damaged-fits (row .publisher) 14 m f))
+          (λ z. damaged-fits (row .publisher) 13 m f))
+
+  answer-fits : (s : State) (row : Lookup) (x : Answer) (m : Master)
+      → ((r : Row) → row ≡ Lookup.Found r → eqb (r .publisher) masterNumber ≡ false → r .publisher < nodecount) → x .count < 4 → Fits nodecount t m → Kept (answerBy s row x m)
+  answer-fits State.Normal Lookup.Missing x m l c f = f
+  answer-fits State.Normal (Lookup.Found r) x m l c f = row-fits r x m (l r refl) c f
+  answer-fits State.Standby row x m l c f = f
+  answer-fits State.Sleep row x m l c f = f
+
+-- what an event does keeps the range
+pub act-fits : (p : Plan) → planRefusal p ≡ 0 → (m : Master) (e : Event) → eventRight e ≡ true → Fits (p .nodecount) (p .times) m → Fits (p .nodecount) (p .times) (act p m e .master)
+act-fits p ok m e r f = go e r
+  where
+    a : TimesFit (p .times)
+    a = times-fit (p .times) (accepted p ok .times)
+
+    go : (e : Event) → eventRight e ≡ true → Fits (p .nodecount) (p .times) (act p m e .master)
+    go Event.Tick r = tick-fits (p .nodecount) (p .times) a (aged (p .times .window) m) (aged-fits (p .nodecount) (p .times) a m f)
+    go (Event.Answer x) r =
+        answer-fits (p .nodecount) (p .times) a (m .state) (findRow p (x .reqid)) x m (λ row q. found-publisher p (x .reqid) row ok q)
+        (ltb-true (x .count) 4 (and-r (ltb (x .reqid) 128) (ltb (x .count) 4) r)) f
+    go Event.Pulse r = wake-up-fits (p .nodecount) (p .times) a m f
+    go Event.WakeAsk r = wake-up-fits (p .nodecount) (p .times) a m f
+    go (Event.Permission permitted) r = permission-fits (p .nodecount) (p .times) a permitted m f
+    go Event.SleepAsk r = sleep-ask-fits (p .nodecount) (p .times) a m f
+    go (Event.SendResult sent) r = send-result-fits (p .nodecount) (p .times) a sent m f
+
+-- and so does every step
+pub range-kept : (p : Plan) → planRefusal p ≡ 0 → (m : Master) (e : Event) → inRange (p .nodecount) (p .times) m ≡ true
+    → inRange (p .nodecount) (p .times) (masterStep p m e .master) ≡ true
+range-kept p ok m e r = in-range (p .nodecount) (p .times) _ (go (fits (p .nodecount) (p .times) m r))
+  where
+    go : Fits (p .nodecount) (p .times) m → Fits (p .nodecount) (p .times) (masterStep p m e .master)
+    go f =
+        by-test (λ (r : Reply). Fits (p .nodecount) (p .times) (r .master)) (eqb (planRefusal p) 0)
+        (λ q. by-test (λ (r : Reply). Fits (p .nodecount) (p .times) (r .master)) (inRange (p .nodecount) (p .times) m)
+            (λ q. by-test (λ (r : Reply). Fits (p .nodecount) (p .times) (r .master)) (eventRight e) (λ q. act-fits p ok m e q f) (λ q. f))
+            (λ q. f))
+        (λ q. f)
+
+pub power-on-fits : (nodecount : ℕ) (t : Times) → inRange nodecount t powerOn ≡ true
+power-on-fits nodecount t = in-range nodecount t powerOn (record { phase = refl; delay = refl; counts = no-counts; holds = none-right nodecount (t .window) })

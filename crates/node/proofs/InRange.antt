@@ -1,0 +1,221 @@
+-- From a state in range, under an accepted plan, every step gives a state in range.
+use Prim.Native.Nat.{ℕ, _+_, _*_, _≤_, _<_}
+use mathlib.Core.Path.{_≡_, refl, ap, sym, _∙_}
+use mathlib.Core.Bool.{Bool, true, false, _&&_, not}
+use mathlib.Core.List.{List}
+use lib.Dec.{leb, ltb, eqb}
+use lib.ListN.{getD, set, replicate}
+use native.Mathlib.Omega.{arith}
+use borrow.Author.Tests.{lt-ltb, le-leb, leb-true, ltb-true, ltb-false}
+use Rattle.folds.specs.Fold.{pick, allTo}
+use Rattle.folds.proofs.AllAny.{and-l, and-r}
+use Rattle.folds.proofs.Choices.{by-test}
+use Rattle.machine.specs.declared.State.{State}
+use Rattle.machine.specs.Counts.{countsBelow}
+use Rattle.machine.proofs.CountTables.{count-at, counts-set}
+use Rattle.plan.specs.declared.Times.{Times}
+use Rattle.plan.specs.declared.Lookup.{Lookup}
+use Rattle.plan.specs.declared.Plan.{Plan}
+use Rattle.plan.specs.Rules.{planRefusal}
+use Rattle.plan.specs.Answers.{isPolled}
+use Rattle.plan.specs.Find.{findRow}
+use Rattle.plan.proofs.Accepted.{accepted, TimesFit, times-fit}
+use Rattle.node.specs.declared.Delay.{Delay}
+use Rattle.node.specs.declared.Node.{Node}
+use Rattle.node.specs.declared.Event.{Event}
+use Rattle.node.specs.declared.Reply.{Reply}
+use Rattle.node.specs.Changes.{asleep, powerOn, toSleep, toNormal, toStandby, withPermission, withWake, withHeard, withQuiet, withDelay, withStandby, nextCount, afterSending, silent, refuse}
+use Rattle.node.specs.Range.{delayRight, standbyRight, inRange}
+use Rattle.node.specs.Ticks.{quietTick, awakeTick, normalBy, callerTick, listenerTick, standbyTick, tickBy, tickStep}
+use Rattle.node.specs.Waking.{pulseBy, pulseStep, wakeAskBy, wakeAskStep, permissionStep}
+use Rattle.node.specs.Sending.{inNormal, sleepMessageStep, sendStep, requestRow, requestStep, sendOwn, sendAskRow, sendAskStep}
+use Rattle.node.specs.Step.{eventRight, act, nodeStep}
+
+-- what a state in range keeps
+pub record Fits (t : Times) (n : Node) : Type 0 where
+  pub quiet : n .quiet ≤ t .quiet
+  pub delay : delayRight (t .sleep) (n .delay) ≡ true
+  pub standby : standbyRight t (n .state) (n .caller) (n .standby) ≡ true
+  pub counts : countsBelow 4 (n .counts) ≡ true
+
+pub fits : (t : Times) (n : Node) → inRange t n ≡ true → Fits t n
+unfolding inRange
+fits t n e =
+    let q = leb (n .quiet) (t .quiet) in
+    let d = delayRight (t .sleep) (n .delay) in
+    let s = standbyRight t (n .state) (n .caller) (n .standby) in
+    let c = countsBelow 4 (n .counts) in
+    let qds = and-l (q && d && s) c e in
+    let qd = and-l (q && d) s qds in
+    record { quiet = leb-true _ _ (and-l q d qd); delay = and-r q d qd; standby = and-r (q && d) s qds; counts = and-r (q && d && s) c e }
+
+pub in-range : (t : Times) (n : Node) → Fits t n → inRange t n ≡ true
+unfolding inRange
+in-range t n f = rw (le-leb _ _ (f .quiet), f .delay, f .standby, f .counts)
+
+no-counts : countsBelow 4 (replicate 128 0) ≡ true
+unfolding countsBelow allTo
+no-counts = refl
+
+-- the counts of a node after it sent a ReqId
+sent-counts : (counts : List ℕ) (reqid : ℕ) → countsBelow 4 counts ≡ true → countsBelow 4 (set counts reqid (nextCount (getD counts reqid 0))) ≡ true
+sent-counts counts reqid e =
+    counts-set 4 counts reqid (nextCount (getD counts reqid 0)) e
+    (by-test (λ x. x < 4) (ltb (getD counts reqid 0) 3) (λ l. omega (arith, ltb-true (getD counts reqid 0) 3 l)) (λ l. omega arith))
+
+module _ (t : Times) where
+  pub asleep-fits : (permitted : Bool) → Fits t (asleep permitted)
+  asleep-fits permitted = record { quiet = omega arith; delay = refl; standby = refl; counts = no-counts }
+
+  module _ (a : TimesFit t) where
+    standby-fits : (n : Node) (caller : Bool) → Fits t n → Fits t (toStandby n caller)
+    standby-fits n caller f = record { quiet = f .quiet; delay = f .delay; standby = zero-fits caller; counts = f .counts }
+      where
+        zero-fits : (c : Bool) → standbyRight t State.Standby c 0 ≡ true
+        zero-fits true = le-leb 0 (2 * t .recovery) (omega arith)
+        zero-fits false = lt-ltb 0 (t .space) (omega (arith, a .space .least))
+
+    quiet-fits : (n : Node) → Fits t n → Fits t (quietTick (t .quiet) n .node)
+    quiet-fits n f =
+        by-test (λ (r : Reply). Fits t (r .node)) (ltb (n .quiet + 1) (t .quiet))
+        (λ l. record { quiet = omega (arith, ltb-true (n .quiet + 1) (t .quiet) l); delay = f .delay; standby = f .standby; counts = f .counts })
+        (λ l. by-test (λ (r : Reply). Fits t (r .node)) (n .permission)
+            (λ y. asleep-fits (n .permission))
+            (λ y. record { quiet = omega arith; delay = f .delay; standby = f .standby; counts = f .counts }))
+
+    awake-fits : (clock : Bool) (n : Node) → Fits t n → Fits t (awakeTick (t .quiet) clock n .node)
+    awake-fits true n f = record { quiet = omega arith; delay = f .delay; standby = f .standby; counts = f .counts }
+    awake-fits false n f = quiet-fits n f
+
+    normal-fits : (clock : Bool) (d : Delay) (n : Node) → Fits t n → Fits t (normalBy t clock d n .node)
+    normal-fits clock Delay.Off n f = awake-fits clock n f
+    normal-fits clock (Delay.On ticks) n f =
+        by-test (λ (r : Reply). Fits t (r .node)) (ltb (ticks + 1) (t .sleep))
+        (λ l. awake-fits clock (withDelay (Delay.On (ticks + 1)) n) (record { quiet = f .quiet; delay = l; standby = f .standby; counts = f .counts }))
+        (λ l. asleep-fits (n .permission))
+
+    -- the count of a node in Standby goes up
+    module _ (n : Node) (is : n .state ≡ State.Standby) (f : Fits t n) where
+      counted : (ticks : ℕ) (error : Bool) → pick (n .caller) (leb ticks (2 * t .recovery)) (ltb ticks (t .space)) ≡ true → Fits t (withStandby ticks error n)
+      counted ticks error e = record { quiet = f .quiet; delay = f .delay; standby = rw is e; counts = f .counts }
+
+      caller-fits : n .caller ≡ true → Fits t (callerTick (t .recovery) n .node)
+      caller-fits c =
+          by-test (λ (r : Reply). Fits t (r .node)) (ltb (n .standby + 1) (2 * t .recovery))
+          (λ l. by-test (λ (r : Reply). Fits t (r .node)) (eqb (n .standby + 1) (t .recovery)) (λ q. up l) (λ q. up l))
+          (λ l. by-test (λ (r : Reply). Fits t (r .node)) (n .permission)
+              (λ y. asleep-fits (n .permission))
+              (λ y. counted (2 * t .recovery) true (rw (c, le-leb (2 * t .recovery) (2 * t .recovery) (omega arith)))))
+        where
+          up : ltb (n .standby + 1) (2 * t .recovery) ≡ true → Fits t (withStandby (n .standby + 1) (n .error) n)
+          up l = counted (n .standby + 1) (n .error) (rw (c, le-leb (n .standby + 1) (2 * t .recovery) (omega (arith, ltb-true (n .standby + 1) (2 * t .recovery) l))))
+
+      listener-fits : n .caller ≡ false → Fits t (listenerTick (t .space) n .node)
+      listener-fits c =
+          by-test (λ (r : Reply). Fits t (r .node)) (ltb (n .standby + 1) (t .space))
+          (λ l. counted (n .standby + 1) (n .error) (rw (c, l)))
+          (λ l. asleep-fits (n .permission))
+
+      standby-tick-fits : Fits t (standbyTick t n .node)
+      standby-tick-fits = by-test (λ (r : Reply). Fits t (r .node)) (n .caller) caller-fits listener-fits
+
+    tick-fits : (clock : Bool) (n : Node) → Fits t n → Fits t (tickStep t clock n .node)
+    tick-fits clock n f = go (n .state) refl
+      where
+        go : (s : State) → n .state ≡ s → Fits t (tickBy t clock s n .node)
+        go State.Normal e = normal-fits clock (n .delay) n f
+        go State.Standby e =
+            by-test (λ (r : Reply). Fits t (r .node)) clock
+            (λ k. record { quiet = omega arith; delay = refl; standby = refl; counts = no-counts })
+            (λ k. standby-tick-fits n e f)
+        go State.Sleep e = by-test (λ (r : Reply). Fits t (r .node)) clock (λ k. standby-fits n false f) (λ k. f)
+
+    pulse-fits : (s : State) (n : Node) → Fits t n → Fits t (pulseBy s n .node)
+    pulse-fits State.Normal n f = f
+    pulse-fits State.Standby n f = f
+    pulse-fits State.Sleep n f = standby-fits n false f
+
+    wake-ask-fits : (s : State) (caller : Bool) (n : Node) → Fits t n → Fits t (wakeAskBy s caller n .node)
+    wake-ask-fits State.Normal caller n f = f
+    wake-ask-fits State.Standby true n f = f
+    wake-ask-fits State.Standby false n f = standby-fits n true f
+    wake-ask-fits State.Sleep caller n f = standby-fits n true f
+
+    permission-fits : (permitted : Bool) (n : Node) → Fits t n → Fits t (permissionStep permitted n .node)
+    permission-fits permitted n f =
+        by-test (λ (r : Reply). Fits t (r .node)) permitted
+        (λ y. by-test (λ (r : Reply). Fits t (r .node)) (n .error) (λ e. asleep-fits permitted) (λ e. set-fits))
+        (λ y. set-fits)
+      where
+        set-fits : Fits t (withPermission permitted n)
+        set-fits = record { quiet = f .quiet; delay = f .delay; standby = f .standby; counts = f .counts }
+
+    -- what needs Normal is refused elsewhere
+    in-normal-fits : (s : State) (n : Node) (r : Reply) → Fits t n → Fits t (r .node) → Fits t (inNormal s n r .node)
+    in-normal-fits State.Normal n r f g = g
+    in-normal-fits State.Standby n r f g = f
+    in-normal-fits State.Sleep n r f g = f
+
+    sleep-message-fits : (n : Node) → Fits t n → Fits t (sleepMessageStep n .node)
+    sleep-message-fits n f =
+        in-normal-fits (n .state) n (silent (withDelay (Delay.On 0) n)) f
+        (record { quiet = f .quiet; delay = lt-ltb 0 (t .sleep) (omega (arith, a .sleep .least)); standby = f .standby; counts = f .counts })
+
+    heard-fits : (n : Node) → Fits t n → Fits t (withHeard n)
+    heard-fits n f = record { quiet = f .quiet; delay = f .delay; standby = f .standby; counts = f .counts }
+
+    send-fits : (reqid : ℕ) (n : Node) → Fits t n → Fits t (sendStep reqid n .node)
+    send-fits reqid n f = record { quiet = f .quiet; delay = f .delay; standby = f .standby; counts = sent-counts (n .counts) reqid (f .counts) }
+
+    request-row-fits : (me : ℕ) (row : Lookup) (n : Node) → Fits t n → Fits t (requestRow me row n .node)
+    request-row-fits me Lookup.Missing n f = f
+    request-row-fits me (Lookup.Found row) n f =
+        by-test (λ (r : Reply). Fits t (r .node)) (eqb (row .publisher) me) (λ e. send-fits (row .reqid) (withHeard n) (heard-fits n f)) (λ e. heard-fits n f)
+
+    send-own-fits : (polled : Bool) (reqid : ℕ) (n : Node) → Fits t n → Fits t (sendOwn polled reqid n .node)
+    send-own-fits polled reqid n f =
+        by-test (λ (r : Reply). Fits t (r .node)) polled
+        (λ p. by-test (λ (r : Reply). Fits t (r .node)) (n .heard) (λ h. send-fits reqid n f) (λ h. f))
+        (λ p. send-fits reqid n f)
+
+    send-ask-row-fits : (me : ℕ) (polled : Bool) (row : Lookup) (n : Node) → Fits t n → Fits t (sendAskRow me polled row n .node)
+    send-ask-row-fits me polled Lookup.Missing n f = f
+    send-ask-row-fits me polled (Lookup.Found row) n f =
+        by-test (λ (r : Reply). Fits t (r .node)) (eqb (row .publisher) me) (λ e. send-own-fits polled (row .reqid) n f) (λ e. f)
+
+-- what an event does keeps the range
+pub act-fits : (p : Plan) → planRefusal p ≡ 0 → (me : ℕ) (n : Node) (e : Event) → Fits (p .times) n → Fits (p .times) (act p me n e .node)
+act-fits p ok me n e f = go e
+  where
+    a : TimesFit (p .times)
+    a = times-fit (p .times) (accepted p ok .times)
+
+    go : (e : Event) → Fits (p .times) (act p me n e .node)
+    go (Event.Tick clock) = tick-fits (p .times) a clock n f
+    go Event.Pulse = pulse-fits (p .times) a (n .state) n f
+    go Event.WakeAsk =
+        wake-ask-fits (p .times) a (n .state) (n .caller) (withWake n) (record { quiet = f .quiet; delay = f .delay; standby = f .standby; counts = f .counts })
+    go (Event.Permission permitted) = permission-fits (p .times) a permitted n f
+    go Event.SleepMessage = sleep-message-fits (p .times) a n f
+    go (Event.Request reqid) =
+        in-normal-fits (p .times) a (n .state) n (requestRow me (findRow p reqid) n) f (request-row-fits (p .times) a me (findRow p reqid) n f)
+    go (Event.SendAsk reqid) =
+        in-normal-fits (p .times) a (n .state) n (sendAskRow me (isPolled p me) (findRow p reqid) n) f
+        (send-ask-row-fits (p .times) a me (isPolled p me) (findRow p reqid) n f)
+
+-- and so does every step
+pub range-kept : (p : Plan) → planRefusal p ≡ 0 → (me : ℕ) (n : Node) (e : Event) → inRange (p .times) n ≡ true → inRange (p .times) (nodeStep p me n e .node) ≡ true
+range-kept p ok me n e r = in-range (p .times) _ (go (fits (p .times) n r))
+  where
+    go : Fits (p .times) n → Fits (p .times) (nodeStep p me n e .node)
+    go f =
+        by-test (λ (r : Reply). Fits (p .times) (r .node)) (eqb (planRefusal p) 0)
+        (λ q. by-test (λ (r : Reply). Fits (p .times) (r .node)) (ltb me (p .nodecount))
+            (λ q. by-test (λ (r : Reply). Fits (p .times) (r .node)) (inRange (p .times) n)
+                (λ q. by-test (λ (r : Reply). Fits (p .times) (r .node)) (eventRight e) (λ q. act-fits p ok me n e f) (λ q. f))
+                (λ q. f))
+            (λ q. f))
+        (λ q. f)
+
+pub power-on-fits : (t : Times) → inRange t powerOn ≡ true
+power-on-fits t = in-range t powerOn (asleep-fits t false)
