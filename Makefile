@@ -1,5 +1,5 @@
 # rt proves and builds what has changed; rt ci starts from nothing and gives the verdict.
-.PHONY: run test sets
+.PHONY: run test cases
 
 # The example set T of document 01, in words.
 run:
@@ -12,6 +12,7 @@ test:
 	rt fmt --check
 	rt ci
 
-# Makes the test sets and what must be printed of them anew, from document 01 (needs python3).
-sets:
+# Makes the test sets, the machines' cases and what must be printed of them anew, from document 01 (needs python3).
+cases:
 	python3 tests/sets/make.py
+	python3 tests/machines/make.py

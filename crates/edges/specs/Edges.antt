@@ -1,22 +1,40 @@
 -- Document 01's edges: proved cases, as one statement over a list.
 use Prim.Native.Nat.{ℕ}
+use mathlib.Core.Bool.{Bool, true, false}
 use mathlib.Core.Path.{_≡_}
 use mathlib.Core.List.{List, [], _∷_}
-use lib.ListN.{set, take}
+use lib.ListN.{set, take, replicate}
+use Rattle.machine.specs.declared.State.{State}
 use Rattle.plan.specs.declared.Plan.{Plan}
 use Rattle.reader.specs.declared.ReadAnswer.{ReadAnswer}
 use Rattle.reader.specs.Read.{refused, readSet}
 use Rattle.writer.specs.Write.{withCheck}
+use Rattle.master.specs.declared.Phase.{Phase}
+use Rattle.master.specs.declared.Hold.{Hold}
+use Rattle.master.specs.declared.Command.{Command}
+use Rattle.master.specs.declared.Master.{Master}
+use Rattle.master.specs.declared.Event.{Event}
+use Rattle.master.specs.declared.Reply.{Reply}
+use Rattle.master.specs.Changes.{noHold, noHolds, noCounts, silent, commands}
+use Rattle.master.specs.Step.{masterStep}
 use Rattle.edges.specs.SetT.{setT, planT, planWith}
 
 -- one case: what is done, and the whole answer that document 01 gives
 pub data Edge : Type 0 where
   -- these bytes are read
   Reads : List ℕ → ReadAnswer → Edge
+  -- under set T's plan this master is handed an event, and events after it; the reply to the last
+  Steps : Master → Event → List Event → Reply → Edge
+
+-- the reply to the last of some events
+abbrev pub lastReply : Master → Event → List Event → Reply
+lastReply m e [] = masterStep planT m e
+lastReply m e (next ∷ events) = lastReply (masterStep planT m e .master) next events
 
 -- the case is so
 abbrev pub Holds : Edge → Type 0
 Holds (Reads bytes answer) = readSet bytes ≡ answer
+Holds (Steps m e events reply) = lastReply m e events ≡ reply
 
 -- every case of a list is so
 abbrev pub AllHold : List Edge → Type 0
@@ -30,6 +48,30 @@ changed offset byte = withCheck (withCheck (set setT offset byte) 0) 1
 abbrev pub accepted : Plan → ReadAnswer
 accepted plan = record { refusal = 0; plan = plan }
 
+-- a permitting master in Normal, with node 0's permission and the last count of ReqId 16, after so many ticks
+abbrev pub awake : Phase → Hold → ℕ → ℕ → Master
+awake phase hold last ticks =
+    record {
+      state = State.Normal;
+      phase = phase;
+      permission = true;
+      holds = hold ∷ replicate 15 noHold;
+      counts = set noCounts 16 last;
+      delay = 0;
+      ticks = ticks;
+    }
+
+abbrev pub held : ℕ → Hold
+held age = record { held = true; age = age }
+
+-- node 0's answer, whole, with a count, a permission bit and a wake bit
+abbrev pub answer : ℕ → Bool → Bool → Event
+answer count permission wake =
+    Event.Answer (record { reqid = 16; result = 0; length = 2; count = count; permission = permission; wake = wake })
+
+abbrev pub lost : ℕ → Master → Reply
+lost number m = record { master = m; command = Command.Nothing; refusal = 0; node = 0; lost = number }
+
 abbrev pub edges : List Edge
 edges =
     -- (1) T reads
@@ -42,4 +84,17 @@ edges =
     ∷ Reads (changed 11 2) (accepted (planWith 2))
     -- (5) S 1, D 2: 5
     ∷ Reads (changed 11 1) (refused 5)
+    -- (6) W 10, age 10: sleep ask goes
+    ∷ Steps (awake Phase.Open (held 10) 4 0) Event.SleepAsk [] (commands Command.SleepMessage (awake Phase.Sending (held 10) 4 0))
+    -- (7) the same after one more tick: 20
+    ∷ Steps (awake Phase.Open (held 10) 4 0) Event.Tick (Event.SleepAsk ∷ [])
+    (record { master = awake Phase.Open noHold 4 1; command = Command.Nothing; refusal = 20; node = 0; lost = 0 })
+    -- (8) last 3, count 0: lost 0
+    ∷ Steps (awake Phase.Open noHold 3 0) (answer 0 true false) [] (lost 0 (awake Phase.Open (held 0) 0 0))
+    -- (9) last 1, count 1: lost 3
+    ∷ Steps (awake Phase.Open noHold 1 0) (answer 1 true false) [] (lost 3 (awake Phase.Open (held 0) 1 0))
+    -- (10) wake and permission bits both 1: nothing held
+    ∷ Steps (awake Phase.Open (held 5) 4 0) (answer 0 true true) [] (lost 0 (awake Phase.Open noHold 0 0))
+    -- (11) refusal in Closing: Open, clock on
+    ∷ Steps (awake Phase.Closing (held 5) 4 0) (answer 0 false false) [] (lost 0 (awake Phase.Open noHold 0 0))
     ∷ []

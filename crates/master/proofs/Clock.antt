@@ -105,12 +105,12 @@ module _ (m : Master) where
   row-clocked row a =
       by-test (Clocked m) (eqb (row .publisher) masterNumber) (λ y. still _ refl refl refl)
       (λ y. by-test (Clocked m) (eqb (a .result) 0)
-          (λ z. by-test (Clocked m) (accepts row (a .length))
-              (λ w. by-test (Clocked m) (isCounted row)
-                  (λ c. still _ refl refl (judged-state (row .publisher) (a .permission) (a .wake) (counted (row .reqid) (a .count) m)))
-                  (λ c. still _ refl refl (judged-state (row .publisher) (a .permission) (a .wake) m)))
-              (λ w. still _ refl refl (call-back-state (letGo (row .publisher) m))))
-          (λ z. still _ refl refl (call-back-state (letGo (row .publisher) m))))
+      (λ z. by-test (Clocked m) (accepts row (a .length))
+      (λ w. by-test (Clocked m) (isCounted row)
+      (λ c. still _ refl refl (judged-state (row .publisher) (a .permission) (a .wake) (counted (row .reqid) (a .count) m)))
+      (λ c. still _ refl refl (judged-state (row .publisher) (a .permission) (a .wake) m)))
+      (λ w. still _ refl refl (call-back-state (letGo (row .publisher) m))))
+      (λ z. still _ refl refl (call-back-state (letGo (row .publisher) m))))
 
   answer-clocked : (s : State) (row : Lookup) (a : Answer) → Clocked m (answerBy s row a m)
   answer-clocked State.Normal Lookup.Missing a = still _ refl refl refl
@@ -131,8 +131,8 @@ module _ (m : Master) where
   step-clocked p e =
       by-test (Clocked m) (eqb (planRefusal p) 0)
       (λ a. by-test (Clocked m) (inRange (p .nodecount) (p .times) m)
-          (λ b. by-test (Clocked m) (eventRight e) (λ c. act-clocked p e) (λ c. still _ refl refl refl))
-          (λ b. still _ refl refl refl))
+      (λ b. by-test (Clocked m) (eventRight e) (λ c. act-clocked p e) (λ c. still _ refl refl refl))
+      (λ b. still _ refl refl refl))
       (λ a. still _ refl refl refl)
 
   -- the clock that the commands switch, on before exactly in Normal, is so after every step

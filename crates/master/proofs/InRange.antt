@@ -88,10 +88,10 @@ module _ (nodecount window : ℕ) where
   older-right k h =
       by-test (λ (x : Hold). holdRight nodecount window k h ≡ true → holdRight nodecount window k x ≡ true) (h .held)
       (λ y. by-test (λ (x : Hold). holdRight nodecount window k h ≡ true → holdRight nodecount window k x ≡ true) (ltb (h .age) window)
-          (λ l r.
-              let a : (ltb k nodecount && leb (h .age) window) ≡ true = rw y at r in
-              rw (and-l (ltb k nodecount) (leb (h .age) window) a, le-leb (h .age + 1) window (omega (arith, ltb-true (h .age) window l))))
-          (λ l r. refl))
+      (λ l r.
+      let a : (ltb k nodecount && leb (h .age) window) ≡ true = rw y at r in
+      rw (and-l (ltb k nodecount) (leb (h .age) window) a, le-leb (h .age + 1) window (omega (arith, ltb-true (h .age) window l))))
+      (λ l r. refl))
       (λ y r. r)
 
   all-older-right : (holds : List Hold) → holdsRight nodecount window holds ≡ true → holdsRight nodecount window (allOlder window holds) ≡ true
@@ -219,7 +219,7 @@ module _ (nodecount : ℕ) (t : Times) (a : TimesFit t) where
   whole-fits row x m l c f =
       by-test Kept (isCounted row)
       (λ y. judged-fits (row .publisher) (x .permission) (x .wake) (counted (row .reqid) (x .count) m) l
-          (record { phase = f .phase; delay = f .delay; counts = counts-set 5 (m .counts) (row .reqid) (x .count) (f .counts) (omega arith); holds = f .holds }))
+      (record { phase = f .phase; delay = f .delay; counts = counts-set 5 (m .counts) (row .reqid) (x .count) (f .counts) (omega arith); holds = f .holds }))
       (λ y. judged-fits (row .publisher) (x .permission) (x .wake) m l f)
 
   row-fits : (row : Row) (x : Answer) (m : Master) → (eqb (row .publisher) masterNumber ≡ false → row .publisher < nodecount) → x .count < 4 → Fits nodecount t m → Kept (rowStep row x m)
@@ -227,8 +227,8 @@ module _ (nodecount : ℕ) (t : Times) (a : TimesFit t) where
       by-test Kept (eqb (row .publisher) masterNumber)
       (λ y. f)
       (λ y. by-test Kept (eqb (x .result) 0)
-          (λ z. by-test Kept (accepts row (x .length)) (λ w. whole-fits row x m (l y) c f) (λ w. damaged-fits (row .publisher) 14 m f))
-          (λ z. damaged-fits (row .publisher) 13 m f))
+      (λ z. by-test Kept (accepts row (x .length)) (λ w. whole-fits row x m (l y) c f) (λ w. damaged-fits (row .publisher) 14 m f))
+      (λ z. damaged-fits (row .publisher) 13 m f))
 
   answer-fits : (s : State) (row : Lookup) (x : Answer) (m : Master)
       → ((r : Row) → row ≡ Lookup.Found r → eqb (r .publisher) masterNumber ≡ false → r .publisher < nodecount) → x .count < 4 → Fits nodecount t m → Kept (answerBy s row x m)
@@ -264,8 +264,8 @@ range-kept p ok m e r = in-range (p .nodecount) (p .times) _ (go (fits (p .nodec
     go f =
         by-test (λ (r : Reply). Fits (p .nodecount) (p .times) (r .master)) (eqb (planRefusal p) 0)
         (λ q. by-test (λ (r : Reply). Fits (p .nodecount) (p .times) (r .master)) (inRange (p .nodecount) (p .times) m)
-            (λ q. by-test (λ (r : Reply). Fits (p .nodecount) (p .times) (r .master)) (eventRight e) (λ q. act-fits p ok m e q f) (λ q. f))
-            (λ q. f))
+        (λ q. by-test (λ (r : Reply). Fits (p .nodecount) (p .times) (r .master)) (eventRight e) (λ q. act-fits p ok m e q f) (λ q. f))
+        (λ q. f))
         (λ q. f)
 
 pub power-on-fits : (nodecount : ℕ) (t : Times) → inRange nodecount t powerOn ≡ true

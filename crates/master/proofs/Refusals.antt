@@ -84,10 +84,10 @@ module _ (m : Master) where
   row-plain row a =
       by-test (Plain m) (eqb (row .publisher) masterNumber) (λ y. refused _ refl refl refl)
       (λ y. by-test (Plain m) (eqb (a .result) 0)
-          (λ z. by-test (Plain m) (accepts row (a .length))
-              (λ w. by-test (Plain m) (isCounted row) (λ c. done _ refl) (λ c. done _ refl))
-              (λ w. record { nothing = λ h. record { command = refl; lost = refl }; same = λ h n13 n14. absurd (n14 refl) }))
-          (λ z. record { nothing = λ h. record { command = refl; lost = refl }; same = λ h n13 n14. absurd (n13 refl) }))
+      (λ z. by-test (Plain m) (accepts row (a .length))
+      (λ w. by-test (Plain m) (isCounted row) (λ c. done _ refl) (λ c. done _ refl))
+      (λ w. record { nothing = λ h. record { command = refl; lost = refl }; same = λ h n13 n14. absurd (n14 refl) }))
+      (λ z. record { nothing = λ h. record { command = refl; lost = refl }; same = λ h n13 n14. absurd (n13 refl) }))
 
   answer-plain : (s : State) (row : Lookup) (a : Answer) → Plain m (answerBy s row a m)
   answer-plain State.Normal Lookup.Missing a = refused _ refl refl refl
@@ -108,6 +108,6 @@ module _ (m : Master) where
   refused-plain p e =
       by-test (Plain m) (eqb (planRefusal p) 0)
       (λ a. by-test (Plain m) (inRange (p .nodecount) (p .times) m)
-          (λ b. by-test (Plain m) (eventRight e) (λ c. act-plain p e) (λ c. refused _ refl refl refl))
-          (λ b. refused _ refl refl refl))
+      (λ b. by-test (Plain m) (eventRight e) (λ c. act-plain p e) (λ c. refused _ refl refl refl))
+      (λ b. refused _ refl refl refl))
       (λ a. refused _ refl refl refl)

@@ -80,8 +80,8 @@ module _ (t : Times) where
         by-test (λ (r : Reply). Fits t (r .node)) (ltb (n .quiet + 1) (t .quiet))
         (λ l. record { quiet = omega (arith, ltb-true (n .quiet + 1) (t .quiet) l); delay = f .delay; standby = f .standby; counts = f .counts })
         (λ l. by-test (λ (r : Reply). Fits t (r .node)) (n .permission)
-            (λ y. asleep-fits (n .permission))
-            (λ y. record { quiet = omega arith; delay = f .delay; standby = f .standby; counts = f .counts }))
+        (λ y. asleep-fits (n .permission))
+        (λ y. record { quiet = omega arith; delay = f .delay; standby = f .standby; counts = f .counts }))
 
     awake-fits : (clock : Bool) (n : Node) → Fits t n → Fits t (awakeTick (t .quiet) clock n .node)
     awake-fits true n f = record { quiet = omega arith; delay = f .delay; standby = f .standby; counts = f .counts }
@@ -104,8 +104,8 @@ module _ (t : Times) where
           by-test (λ (r : Reply). Fits t (r .node)) (ltb (n .standby + 1) (2 * t .recovery))
           (λ l. by-test (λ (r : Reply). Fits t (r .node)) (eqb (n .standby + 1) (t .recovery)) (λ q. up l) (λ q. up l))
           (λ l. by-test (λ (r : Reply). Fits t (r .node)) (n .permission)
-              (λ y. asleep-fits (n .permission))
-              (λ y. counted (2 * t .recovery) true (rw (c, le-leb (2 * t .recovery) (2 * t .recovery) (omega arith)))))
+          (λ y. asleep-fits (n .permission))
+          (λ y. counted (2 * t .recovery) true (rw (c, le-leb (2 * t .recovery) (2 * t .recovery) (omega arith)))))
         where
           up : ltb (n .standby + 1) (2 * t .recovery) ≡ true → Fits t (withStandby (n .standby + 1) (n .error) n)
           up l = counted (n .standby + 1) (n .error) (rw (c, le-leb (n .standby + 1) (2 * t .recovery) (omega (arith, ltb-true (n .standby + 1) (2 * t .recovery) l))))
@@ -211,10 +211,10 @@ range-kept p ok me n e r = in-range (p .times) _ (go (fits (p .times) n r))
     go f =
         by-test (λ (r : Reply). Fits (p .times) (r .node)) (eqb (planRefusal p) 0)
         (λ q. by-test (λ (r : Reply). Fits (p .times) (r .node)) (ltb me (p .nodecount))
-            (λ q. by-test (λ (r : Reply). Fits (p .times) (r .node)) (inRange (p .times) n)
-                (λ q. by-test (λ (r : Reply). Fits (p .times) (r .node)) (eventRight e) (λ q. act-fits p ok me n e f) (λ q. f))
-                (λ q. f))
-            (λ q. f))
+        (λ q. by-test (λ (r : Reply). Fits (p .times) (r .node)) (inRange (p .times) n)
+        (λ q. by-test (λ (r : Reply). Fits (p .times) (r .node)) (eventRight e) (λ q. act-fits p ok me n e f) (λ q. f))
+        (λ q. f))
+        (λ q. f))
         (λ q. f)
 
 pub power-on-fits : (t : Times) → inRange t powerOn ≡ true

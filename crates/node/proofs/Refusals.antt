@@ -56,7 +56,7 @@ module _ (n : Node) where
   tick-done t clock State.Standby m =
       by-test Done clock (λ k. refl)
       (λ k. by-test Done (m .caller) (λ c. caller-done (t .recovery) m)
-          (λ c. by-test Done (ltb (m .standby + 1) (t .space)) (λ l. refl) (λ l. refl)))
+      (λ c. by-test Done (ltb (m .standby + 1) (t .space)) (λ l. refl) (λ l. refl)))
   tick-done t clock State.Sleep m = by-test Done clock (λ k. refl) (λ k. refl)
 
   pulse-done : (s : State) (m : Node) → Done (pulseBy s m)
@@ -104,6 +104,6 @@ module _ (n : Node) where
   refused-same p me e =
       by-test (Plain n) (eqb (planRefusal p) 0)
       (λ a. by-test (Plain n) (ltb me (p .nodecount))
-          (λ b. by-test (Plain n) (inRange (p .times) n) (λ c. by-test (Plain n) (eventRight e) (λ d. act-plain p me e) (λ d q. refl)) (λ c q. refl))
-          (λ b q. refl))
+      (λ b. by-test (Plain n) (inRange (p .times) n) (λ c. by-test (Plain n) (eventRight e) (λ d. act-plain p me e) (λ d q. refl)) (λ c q. refl))
+      (λ b q. refl))
       (λ a q. refl)

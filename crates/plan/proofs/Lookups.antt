@@ -79,5 +79,5 @@ found-publisher p reqid r ok e n =
     let m = rows-few p (accepted p ok .rows) in
     let each = and-r (inRange 1 127 (p .rowcount)) (allTo (rowRight (p .nodecount) (p .rows)) (p .rowcount)) (accepted p ok .rows) in
     let right : rowAfter (p .nodecount) (reqidBefore (p .rows) (f .place)) (rowAt (p .rows) (f .place)) ≡ true
-        = all-at (rowRight (p .nodecount) (p .rows)) (p .rowcount) each (f .place) (omega (arith, f .used, m)) in
+    = all-at (rowRight (p .nodecount) (p .rows)) (p .rowcount) each (f .place) (omega (arith, f .used, m)) in
     row-publisher (p .nodecount) (reqidBefore (p .rows) (f .place)) r (rw (f .row) at right) n

@@ -1,0 +1,343 @@
+#!/usr/bin/env python3
+"""Writes the cases of both machines and what must be printed of each: crates/machine_cases/stdin and stdout.
+
+Run at the repository's root. Each case gives a state, an event and, by hand from document 01, what the step changes. Nothing
+here calls the product or works a rule out: what is not named as changed stays as given.
+
+Plan 0: two nodes, node 0 polled, node 1 event-triggered; W 10, D 2, S 3, E 4, R 5, P 6, C 2; row 16 of node 0, length 2, with a
+sequence count; row 17 of node 1, length 3, without one; row 18 of the master. Plan 1: the same with all times 1. Plan 2: the same
+with revision 0. Plan 3: node 0 and row 16 alone."""
+
+STATES = ["Normal", "Standby", "Sleep"]
+PHASES = ["Open", "Sending", "Withdrawn", "Closing"]
+LAST = 4294967295
+stdin, stdout = [], []
+
+
+def case(numbers, printed, shows):
+    numbers = [int(n) for n in numbers]
+    stdin.append(" ".join(map(str, numbers + [0] * (20 - len(numbers)))) + " " + shows)
+    stdout.append(printed + shows)
+
+
+# The master
+
+POWER_ON = dict(state="Sleep", phase="Open", permits=0, hold0=None, hold1=None, last16=4, last17=4, delay=0, ticks=0)
+STANDBY = dict(POWER_ON, state="Standby")
+OPEN = dict(POWER_ON, state="Normal")
+SENDING = dict(OPEN, phase="Sending")
+WITHDRAWN = dict(OPEN, phase="Withdrawn")
+CLOSING = dict(OPEN, phase="Closing")
+BOTH = dict(hold0=3, hold1=4)
+NONE = dict(hold0=None, hold1=None)
+TICK, PULSE, WAKE_ASK, SLEEP_ASK = [0], [2], [3], [5]
+
+
+def answer(reqid, length, count=0, permission=0, wake=0, result=0):
+    return [1, reqid, result, length, count, permission, wake]
+
+
+def permission(yes):
+    return [4, yes]
+
+
+def send_result(sent):
+    return [6, sent]
+
+
+def master(s, event, shows, command="nothing", refusal=0, node=0, lost=0, plan=0, wrong=None, **changes):
+    """A hold is None or its age. `wrong` puts numbers into places of the case, for states that document 01 does not know."""
+    held = lambda age: [0, 0] if age is None else [1, age]
+    word = lambda age: "- 0 " if age is None else "held %d " % age
+    numbers = [0, plan, STATES.index(s["state"]), PHASES.index(s["phase"]), s["permits"]]
+    numbers += held(s["hold0"]) + held(s["hold1"]) + [s["last16"], s["last17"], s["delay"], s["ticks"]] + event
+    printed_wrong = ""
+    if wrong:
+        place, value, printed_wrong = wrong
+        numbers[place] = value
+    r = dict(s, **changes)
+    printed = printed_wrong or "%s %s %s%s%s%d %d %d %d " % (
+        r["state"], r["phase"], "permits " * r["permits"], word(r["hold0"]), word(r["hold1"]),
+        r["last16"], r["last17"], r["delay"], r["ticks"])
+    case(numbers, printed + "%s %d %d %d " % (command, refusal, node, lost), shows)
+
+
+# Tick, any state
+master(POWER_ON, TICK, "tick in Sleep", ticks=1)
+master(dict(OPEN, **BOTH), TICK, "tick in Open: held ages up by one", ticks=1, hold0=4, hold1=5)
+master(SENDING, TICK, "tick in Sending", ticks=1)
+master(WITHDRAWN, TICK, "tick in Withdrawn", ticks=1)
+master(dict(OPEN, hold0=9, hold1=10), TICK, "ages W - 1 and W: W stays, W + 1 is let go", ticks=1, hold0=10, hold1=None)
+master(dict(SENDING, hold0=10, hold1=0), TICK, "ageing out is no call-back", ticks=1, hold0=None, hold1=1)
+master(dict(CLOSING, hold0=10), TICK, "nor in Closing", ticks=1, hold0=None, delay=1)
+master(dict(POWER_ON, hold0=10, hold1=1), TICK, "outside Normal held ages run too", ticks=1, hold0=None, hold1=2)
+master(dict(OPEN, ticks=LAST - 1), TICK, "tick number to its last value", ticks=LAST)
+master(dict(OPEN, ticks=LAST, hold0=3), TICK, "tick number back to 0, the age goes on", ticks=0, hold0=4)
+master(STANDBY, TICK, "C 2: first tick", ticks=1, delay=1)
+master(dict(STANDBY, delay=1, last16=2, last17=0, hold1=5), TICK, "C 2: at the C-th clock on, counts all 4, held stays",
+       "clock-on", ticks=1, delay=0, state="Normal", last16=4, last17=4, hold1=6)
+master(STANDBY, TICK, "C 1: at the first tick", "clock-on", plan=1, ticks=1, state="Normal")
+master(CLOSING, TICK, "D 2: first tick", ticks=1, delay=1)
+master(dict(CLOSING, delay=1, last16=2, permits=1, **BOTH), TICK, "D 2: at the D-th clock off, all let go, counts stay",
+       "clock-off", ticks=1, delay=0, state="Sleep", phase="Open", **NONE)
+master(CLOSING, TICK, "D 1: at the first tick", "clock-off", plan=1, ticks=1, state="Sleep", phase="Open")
+master(dict(OPEN, hold0=1), TICK, "W 1: age 2 is let go", plan=1, ticks=1, hold0=None)
+
+# Answer: 16 outside Normal, then 12, 13, 14
+master(POWER_ON, answer(16, 2, 0, 1), "answer in Sleep", refusal=16)
+master(STANDBY, answer(16, 2, 0, 1), "answer in Standby", refusal=16)
+master(POWER_ON, answer(99, 2, 0, 1), "16 before 12", refusal=16)
+master(OPEN, answer(99, 2, 0, 1), "ReqId not in the plan", refusal=12)
+master(OPEN, answer(0, 0), "ReqId 0 is in no plan", refusal=12)
+master(dict(CLOSING, **BOTH), answer(18, 0), "a master's row: nothing is called back", refusal=12)
+master(OPEN, answer(18, 0, result=1), "12 before 13", refusal=12)
+master(dict(OPEN, **BOTH), answer(16, 2, 0, 1, result=1), "damaged: its publisher is let go", refusal=13, hold0=None)
+master(dict(OPEN, **BOTH), answer(16, 9, 0, 1, result=1), "13 before 14", refusal=13, hold0=None)
+master(dict(OPEN, **BOTH), answer(16, 3, 0, 1), "length too long", refusal=14, hold0=None)
+master(dict(OPEN, **BOTH), answer(17, 2, 0, 1), "length too short, of node 1", refusal=14, hold1=None)
+master(dict(OPEN, **BOTH), answer(16, 258, 0, 1), "length 2 + 256", refusal=14, hold0=None)
+master(dict(OPEN, **BOTH), answer(16, 2, 0, 1, result=256), "result 256 is not 0", refusal=13, hold0=None)
+master(dict(OPEN, **BOTH), answer(16, 2, 0, 1, 1, result=1), "damaged with the wake bit: the others stay held", refusal=13, hold0=None)
+master(dict(OPEN, last16=1), answer(16, 2, 3, result=7), "damaged: the count is not stored", refusal=13)
+master(dict(SENDING, **BOTH), answer(16, 2, 0, 1, result=1), "damaged in Sending: Withdrawn", refusal=13, hold0=None, phase="Withdrawn")
+master(dict(WITHDRAWN, **BOTH), answer(16, 2, 0, 1, result=1), "damaged in Withdrawn", refusal=13, hold0=None)
+master(dict(CLOSING, delay=1, **BOTH), answer(17, 9, 0, 1), "damaged in Closing: Open", refusal=14, hold1=None, phase="Open", delay=0)
+
+# Answer taken: count, then wake bit, then permission bit
+master(OPEN, answer(16, 2, 2, 1), "none before: lost 0, held with age 0", last16=2, hold0=0)
+for last, count, lost in [(0, 1, 0), (0, 2, 1), (0, 3, 2), (0, 0, 3), (3, 0, 0), (3, 1, 1), (1, 1, 3), (1, 0, 2), (2, 3, 0), (2, 1, 2)]:
+    master(dict(OPEN, last16=last), answer(16, 2, count, 1), "last %d, count %d" % (last, count), lost=lost, last16=count, hold0=0)
+master(dict(OPEN, last17=1), answer(17, 3, 3, 1), "a row without a count: lost 0, nothing stored", hold1=0)
+master(dict(OPEN, **BOTH), answer(16, 2, 0, 1), "held again: age 0", last16=0, hold0=0)
+master(dict(OPEN, **BOTH), answer(16, 2, 0, 1, 1), "wake and permission bits both 1: nothing held", last16=0, **NONE)
+master(dict(OPEN, last16=0, **BOTH), answer(16, 2, 2, 0, 1), "wake bit: the count is still reported", lost=1, last16=2, **NONE)
+master(dict(OPEN, **BOTH), answer(16, 2, 0), "refusing: its publisher is let go", last16=0, hold0=None)
+master(dict(SENDING, **BOTH), answer(16, 2, 0, 1), "held in Sending", last16=0, hold0=0)
+master(dict(CLOSING, delay=1, **BOTH), answer(16, 2, 0, 1), "held in Closing, the delay runs on", last16=0, hold0=0)
+master(dict(SENDING, **BOTH), answer(16, 2, 0), "refusing in Sending: Withdrawn", last16=0, hold0=None, phase="Withdrawn")
+master(dict(CLOSING, delay=1, **BOTH), answer(16, 2, 0), "refusing in Closing: Open", last16=0, hold0=None, phase="Open", delay=0)
+master(dict(WITHDRAWN, **BOTH), answer(16, 2, 0), "refusing in Withdrawn", last16=0, hold0=None)
+master(dict(SENDING, **BOTH), answer(17, 3, 0, 0, 1), "wake bit in Sending: Withdrawn", phase="Withdrawn", **NONE)
+master(dict(CLOSING, delay=1, **BOTH), answer(17, 3, 0, 0, 1), "wake bit in Closing: Open", phase="Open", delay=0, **NONE)
+
+# Wake-up pulse, or own ask to wake
+for event, name in [(PULSE, "pulse"), (WAKE_ASK, "own ask to wake")]:
+    master(POWER_ON, event, name + " in Sleep: Standby", state="Standby")
+    master(dict(POWER_ON, permits=1, hold0=1, ticks=5), event, name + " in Sleep: the rest stays", state="Standby")
+    master(dict(STANDBY, delay=1), event, name + " in Standby: nothing")
+    master(dict(OPEN, **BOTH), event, name + " in Open: let all go", **NONE)
+    master(dict(SENDING, **BOTH), event, name + " in Sending: Withdrawn", phase="Withdrawn", **NONE)
+    master(dict(WITHDRAWN, **BOTH), event, name + " in Withdrawn", **NONE)
+    master(dict(CLOSING, delay=1, **BOTH), event, name + " in Closing: Open", phase="Open", delay=0, **NONE)
+
+# Own permission, any state
+master(POWER_ON, permission(1), "own yes in Sleep", permits=1)
+master(dict(POWER_ON, permits=1), permission(0), "own no in Sleep", permits=0)
+master(dict(STANDBY, delay=1), permission(1), "own yes in Standby, the delay stays", permits=1)
+master(dict(STANDBY, delay=1, permits=1), permission(0), "own no in Standby, the delay stays", permits=0)
+master(dict(OPEN, **BOTH), permission(1), "own yes in Open", permits=1)
+master(dict(OPEN, permits=1, **BOTH), permission(0), "own no in Open lets nobody go", permits=0)
+master(dict(SENDING, permits=1), permission(1), "own yes in Sending")
+master(dict(SENDING, permits=1, **BOTH), permission(0), "own no in Sending: Withdrawn", permits=0, phase="Withdrawn")
+master(SENDING, permission(0), "a no after a no calls back too", phase="Withdrawn")
+master(dict(WITHDRAWN, permits=1), permission(0), "own no in Withdrawn", permits=0)
+master(dict(CLOSING, delay=1), permission(1), "own yes in Closing, the delay stays", permits=1)
+master(dict(CLOSING, delay=1, permits=1), permission(0), "own no in Closing: Open", permits=0, phase="Open", delay=0)
+
+# Sleep ask: 16, 18, 19, 20
+master(dict(POWER_ON, permits=1), SLEEP_ASK, "sleep ask in Sleep", refusal=16)
+master(dict(STANDBY, permits=1), SLEEP_ASK, "sleep ask in Standby", refusal=16)
+master(dict(SENDING, permits=1, **BOTH), SLEEP_ASK, "sleep ask in Sending", refusal=18)
+master(dict(WITHDRAWN, permits=1, **BOTH), SLEEP_ASK, "sleep ask in Withdrawn", refusal=18)
+master(dict(CLOSING, permits=1, **BOTH), SLEEP_ASK, "sleep ask in Closing", refusal=18)
+master(CLOSING, SLEEP_ASK, "18 before 19", refusal=18)
+master(dict(OPEN, **BOTH), SLEEP_ASK, "own permission no", refusal=19)
+master(OPEN, SLEEP_ASK, "19 before 20", refusal=19)
+master(dict(OPEN, permits=1), SLEEP_ASK, "20 names the lowest", refusal=20)
+master(dict(OPEN, permits=1, hold0=1), SLEEP_ASK, "20 names node 1", refusal=20, node=1)
+master(dict(OPEN, permits=1, hold0=10, hold1=10), SLEEP_ASK, "age W: the message goes", "sleep-message", phase="Sending")
+
+# Send result: 16, 17
+master(POWER_ON, send_result(1), "send result in Sleep", refusal=16)
+master(STANDBY, send_result(0), "send result in Standby", refusal=16)
+master(OPEN, send_result(1), "send result in Open", refusal=17)
+master(CLOSING, send_result(1), "send result in Closing", refusal=17)
+master(dict(SENDING, permits=1, **BOTH), send_result(1), "sent: Closing", phase="Closing")
+master(dict(SENDING, permits=1, **BOTH), send_result(0), "failed: Open", phase="Open")
+master(dict(WITHDRAWN, **BOTH), send_result(1), "sent after a call-back: Open", phase="Open")
+master(dict(WITHDRAWN, **BOTH), send_result(0), "failed after a call-back: Open", phase="Open")
+
+# Plan 4 to 8, then 11, 15, 16
+master(OPEN, TICK, "revision 0", refusal=4, plan=2)
+master(dict(OPEN, hold0=11), TICK, "4 before 11", refusal=4, plan=2)
+master(dict(OPEN, hold0=11), TICK, "age above W", refusal=11)
+master(OPEN, TICK, "age of a node not held", refusal=11, wrong=(6, 1, "Normal Open - 1 - 0 4 4 0 0 "))
+master(dict(OPEN, hold1=0), TICK, "a place from N on held", refusal=11, plan=3)
+master(dict(OPEN, hold0=0), TICK, "the places below N", ticks=1, hold0=1, plan=3)
+master(dict(STANDBY, phase="Sending"), TICK, "a phase outside Normal", refusal=11)
+master(dict(POWER_ON, phase="Closing"), TICK, "a phase in Sleep", refusal=11)
+master(dict(STANDBY, delay=2), TICK, "delay C in Standby", refusal=11)
+master(dict(CLOSING, delay=2), TICK, "delay D in Closing", refusal=11)
+master(dict(POWER_ON, delay=1), TICK, "a delay in Sleep", refusal=11)
+master(dict(OPEN, delay=1), TICK, "a delay in Open", refusal=11)
+master(dict(SENDING, delay=1), TICK, "a delay in Sending", refusal=11)
+master(dict(OPEN, last17=5), TICK, "last count 5", refusal=11)
+master(dict(OPEN, hold0=11), answer(16, 2, 4), "11 before 15", refusal=11)
+master(OPEN, answer(16, 2, 4, 1), "count 4", refusal=15)
+master(OPEN, answer(128, 2, 0, 1), "ReqId 128", refusal=15)
+master(POWER_ON, answer(16, 2, 4, 1), "15 before 16", refusal=15)
+master(OPEN, answer(17, 3, 4, 1), "15 for a row without a count too", refusal=15)
+
+# A node
+
+ASLEEP = dict(state="Sleep", permits=0, error=0, wake=0, heard=0, caller=0, quiet=0, delay=None, standby=0, count16=0, count17=0)
+CALLED = dict(ASLEEP, state="Standby")
+CALLER = dict(CALLED, caller=1, wake=1)
+AWAKE = dict(ASLEEP, state="Normal")
+FLAGS = ["permits", "error", "wake", "heard", "caller"]
+CLOCK, DARK, HEARD, OWN_WAKE, MESSAGE = [0, 1], [0, 0], [1], [2], [4]
+FULL = dict(error=1, wake=1, heard=1, quiet=3, delay=1, count16=2, count17=3)
+CLEAR = dict(state="Sleep", error=0, wake=0, heard=0, caller=0, quiet=0, delay=None, standby=0, count16=0, count17=0)
+
+
+def permit(yes):
+    return [3, yes]
+
+
+def request(reqid):
+    return [5, reqid]
+
+
+def ask(reqid):
+    return [6, reqid]
+
+
+def sent(permission, wake, count):
+    return "send %d %d %d" % (permission, wake, count)
+
+
+def node(s, event, shows, command="nothing", refusal=0, me=0, plan=0, **changes):
+    numbers = [1, plan, STATES.index(s["state"])] + [s[flag] for flag in FLAGS]
+    numbers += [s["quiet"], 0 if s["delay"] is None else s["delay"] + 1, s["standby"], s["count16"], s["count17"]]
+    numbers += (event + [0])[:2] + [me]
+    r = dict(s, **changes)
+    printed = r["state"] + " " + "".join(flag + " " for flag in FLAGS if r[flag])
+    printed += "%d %s %d %d %d " % (r["quiet"], "-" if r["delay"] is None else r["delay"], r["standby"], r["count16"], r["count17"])
+    case(numbers, printed + "%s %d " % (command, refusal), shows)
+
+
+# Tick with clock
+node(dict(AWAKE, error=1, quiet=4, heard=1, wake=1, count16=2), CLOCK, "clock in Normal: error off, quiet 0", error=0, quiet=0)
+node(dict(AWAKE, quiet=2, delay=1), CLOCK, "S 3: a delay still runs", quiet=0, delay=2)
+node(dict(AWAKE, permits=1, **dict(FULL, delay=2)), CLOCK, "S 3: reached, Sleep, all but permission clear", **CLEAR)
+node(dict(AWAKE, delay=0), CLOCK, "S 1: reached in the first tick", plan=1, **CLEAR)
+node(dict(CALLED, permits=1, standby=3, **FULL), CLOCK, "clock in Standby: Normal, the wake bit stays",
+     state="Normal", error=0, heard=0, quiet=0, delay=None, standby=0, count16=0, count17=0)
+node(dict(CALLER, standby=10, error=1), CLOCK, "the caller too", state="Normal", caller=0, error=0, standby=0)
+node(ASLEEP, CLOCK, "clock in Sleep: Standby, not caller", state="Standby")
+node(dict(ASLEEP, permits=1, **FULL), CLOCK, "clock in Sleep: the rest stays", state="Standby")
+
+# Tick without
+node(AWAKE, DARK, "E 4: quiet up by one", quiet=1)
+node(dict(AWAKE, quiet=2), DARK, "E 4: one short of it", quiet=3)
+node(dict(AWAKE, quiet=3, wake=1, count16=1), DARK, "E 4: error on, no permission, no Sleep", quiet=4, error=1)
+node(dict(AWAKE, quiet=4, error=1), DARK, "quiet not above E")
+node(dict(AWAKE, quiet=4), DARK, "error on again where quiet stood at E", error=1)
+node(dict(AWAKE, quiet=3, permits=1, wake=1, heard=1, count17=2), DARK, "E 4: permitted, Sleep", **CLEAR)
+node(AWAKE, DARK, "E 1: in the first tick", plan=1, quiet=1, error=1)
+node(dict(AWAKE, delay=0), DARK, "a delay and the quiet count run together", delay=1, quiet=1)
+node(dict(AWAKE, quiet=3, delay=0), DARK, "E 4 with a delay running: error on", delay=1, quiet=4, error=1)
+node(dict(AWAKE, delay=2, **dict(quiet=3, wake=1)), DARK, "S 3: reached before E is looked at", **CLEAR)
+node(dict(CALLER, standby=3), DARK, "R 5: one short of it", standby=4)
+node(dict(CALLER, standby=4), DARK, "R 5: second pulse", "pulse", standby=5)
+node(dict(CALLER, standby=5), DARK, "R 5: one past it", standby=6)
+node(dict(CALLER, standby=8), DARK, "2R 10: one short of it", standby=9)
+node(dict(CALLER, standby=9), DARK, "2R 10: error on, no permission, no Sleep", standby=10, error=1)
+node(dict(CALLER, standby=10, error=1), DARK, "standby count not above 2R")
+node(dict(CALLER, standby=10), DARK, "error on again where the count stood at 2R", error=1)
+node(dict(CALLER, standby=9, permits=1), DARK, "2R 10: permitted, Sleep", **CLEAR)
+node(CALLER, DARK, "R 1: second pulse in the first tick", "pulse", plan=1, standby=1)
+node(dict(CALLER, standby=1), DARK, "2R 2 in the second", plan=1, standby=2, error=1)
+node(dict(CALLED, standby=4), DARK, "P 6: one short of it", standby=5)
+node(dict(CALLED, standby=5, wake=1), DARK, "P 6: Sleep", **CLEAR)
+node(CALLED, DARK, "P 1: in the first tick", plan=1, **CLEAR)
+node(dict(CALLED, delay=1, quiet=2), DARK, "a delay runs in Normal only", standby=1)
+node(ASLEEP, DARK, "Sleep without clock: nothing")
+node(dict(ASLEEP, **FULL), DARK, "Sleep without clock: nothing, whatever shows")
+
+# Pulse heard
+node(ASLEEP, HEARD, "pulse in Sleep: Standby, not caller", state="Standby")
+node(dict(ASLEEP, permits=1, **FULL), HEARD, "pulse in Sleep: the rest stays", state="Standby")
+node(dict(CALLED, standby=3), HEARD, "pulse in Standby: nothing")
+node(dict(CALLER, standby=3), HEARD, "pulse in Standby as caller: nothing")
+node(dict(AWAKE, delay=1), HEARD, "pulse in Normal: nothing")
+
+# Own ask to wake
+node(ASLEEP, OWN_WAKE, "own ask in Sleep: caller, pulse", "pulse", state="Standby", caller=1, wake=1)
+node(dict(CALLED, standby=3), OWN_WAKE, "own ask in Standby, not caller: caller, count 0, pulse", "pulse", caller=1, wake=1, standby=0)
+node(dict(CALLER, wake=0, standby=3), OWN_WAKE, "own ask as caller: wake bit only", wake=1)
+node(dict(AWAKE, delay=1), OWN_WAKE, "own ask in Normal: wake bit only", wake=1)
+
+# Permission
+node(ASLEEP, permit(1), "yes in Sleep", permits=1)
+node(dict(AWAKE, permits=1), permit(0), "no in Normal", permits=0)
+node(dict(AWAKE, quiet=2, delay=1), permit(1), "yes in Normal", permits=1)
+node(dict(AWAKE, error=1, quiet=4, wake=1, count16=1), permit(1), "yes while the error shows: Sleep", **dict(CLEAR, permits=1))
+node(dict(AWAKE, error=1, quiet=4), permit(0), "no while the error shows")
+node(dict(CALLER, error=1, standby=10), permit(1), "yes while the caller's error shows: Sleep", **dict(CLEAR, permits=1))
+node(dict(ASLEEP, **FULL), permit(1), "yes while the error shows in Sleep: clear", **dict(CLEAR, permits=1))
+node(CALLED, permit(1), "yes in Standby", permits=1)
+
+# Sleep message
+node(ASLEEP, MESSAGE, "sleep message in Sleep", refusal=16)
+node(CALLED, MESSAGE, "sleep message in Standby", refusal=16)
+node(CALLER, MESSAGE, "sleep message in Standby as caller", refusal=16)
+node(AWAKE, MESSAGE, "sleep message in Normal: delay 0", delay=0)
+node(dict(AWAKE, delay=2), MESSAGE, "another one restarts it", delay=0)
+
+# Request and ask to send: 16, 12, 21
+node(ASLEEP, request(16), "request in Sleep", refusal=16)
+node(CALLER, request(16), "request in Standby", refusal=16)
+node(ASLEEP, request(99), "16 before 12", refusal=16)
+node(AWAKE, request(99), "ReqId not in the plan: not heard", refusal=12)
+node(AWAKE, request(17), "another's row: heard, nothing sent", heard=1)
+node(AWAKE, request(18), "a master's row: heard, nothing sent", heard=1)
+node(AWAKE, request(16), "its own row: heard and sent", sent(0, 0, 0), heard=1, count16=1)
+node(dict(AWAKE, permits=1, wake=1, count16=2), request(16), "sent with permission, wake bit and count", sent(1, 1, 2), heard=1, wake=0, count16=3)
+node(dict(AWAKE, count16=3), request(16), "the count goes from 3 to 0", sent(0, 0, 3), heard=1, count16=0)
+node(dict(AWAKE, delay=1, quiet=2), request(17), "a row without a count counts too", sent(0, 0, 0), me=1, heard=1, count17=1)
+node(ASLEEP, ask(17), "ask to send in Sleep", refusal=16, me=1)
+node(CALLED, ask(17), "ask to send in Standby", refusal=16, me=1)
+node(ASLEEP, ask(16), "16 before 21", refusal=16)
+node(AWAKE, ask(99), "ask to send of a ReqId not in the plan", refusal=12, me=1)
+node(AWAKE, ask(16), "ask to send another's row", refusal=12, me=1)
+node(AWAKE, ask(18), "ask to send a master's row", refusal=12, me=1)
+node(AWAKE, ask(17), "12 before 21", refusal=12)
+node(AWAKE, ask(16), "polled, not heard", refusal=21)
+node(dict(AWAKE, heard=1, wake=1, count16=1), ask(16), "polled, heard", sent(0, 1, 1), wake=0, count16=2)
+node(dict(AWAKE, permits=1, count17=3), ask(17), "event-triggered, not heard", sent(1, 0, 3), me=1, count17=0)
+
+# Plan 4 to 8, then 11, 15, 16
+node(AWAKE, DARK, "revision 0", refusal=4, plan=2)
+node(AWAKE, DARK, "4 before 11", refusal=4, plan=2, me=2)
+node(AWAKE, DARK, "node number N", refusal=11, me=2)
+node(AWAKE, DARK, "node number 255", refusal=11, me=255)
+node(AWAKE, DARK, "node number N of one node", refusal=11, plan=3, me=1)
+node(dict(AWAKE, quiet=5), DARK, "quiet above E", refusal=11)
+node(dict(ASLEEP, quiet=5), DARK, "quiet above E in Sleep", refusal=11)
+node(dict(AWAKE, delay=3), DARK, "delay S", refusal=11)
+node(dict(CALLER, standby=11), DARK, "standby count above 2R", refusal=11)
+node(dict(CALLED, standby=6), DARK, "standby count P, not caller", refusal=11)
+node(dict(AWAKE, caller=1), DARK, "caller in Normal", refusal=11)
+node(dict(ASLEEP, caller=1), DARK, "caller in Sleep", refusal=11)
+node(dict(AWAKE, standby=1), DARK, "standby count in Normal", refusal=11)
+node(dict(ASLEEP, standby=1), DARK, "standby count in Sleep", refusal=11)
+node(dict(AWAKE, count17=4), DARK, "sequence count 4", refusal=11)
+node(dict(AWAKE, quiet=5), request(128), "11 before 15", refusal=11)
+node(AWAKE, request(128), "request of ReqId 128", refusal=15)
+node(AWAKE, ask(128), "ask to send ReqId 128", refusal=15)
+node(ASLEEP, request(255), "15 before 16", refusal=15)
+
+for name, lines in [("stdin", stdin), ("stdout", stdout)]:
+    with open("crates/machine_cases/" + name, "w") as f:
+        f.write("\n".join(lines) + "\n")
