@@ -15,7 +15,7 @@ use Rattle.master.specs.declared.Command.{Command}
 use Rattle.master.specs.declared.Master.{Master}
 use Rattle.master.specs.declared.Event.{Event}
 use Rattle.master.specs.declared.Reply.{Reply}
-use Rattle.master.specs.Changes.{noHold, noHolds, noCounts, silent, commands}
+use Rattle.master.specs.Changes.{noHold, noCounts, commands}
 use Rattle.master.specs.Step.{masterStep}
 use Rattle.edges.specs.SetT.{setT, planT, planWith}
 

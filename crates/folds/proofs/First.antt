@@ -1,12 +1,11 @@
 -- Laws of the lowest number of which a test holds.
 use Prim.Native.Nat.{ℕ, zero, suc, _+_, _≤_, _<_}
 use mathlib.Core.Path.{_≡_, refl, ap, sym, _∙_}
-use mathlib.Core.Bool.{Bool, true, false, _||_, or-false, or-true}
+use mathlib.Core.Bool.{Bool, true, false}
 use mathlib.Core.Logic.{⊎-elim}
 use native.Mathlib.Omega.{arith}
-use native.Mathlib.Numerals.{add-one}
-use Rattle.folds.specs.Fold.{pick, anyTo, firstTo}
-use Rattle.folds.proofs.AllAny.{below-cases, any-none, any-next}
+use Rattle.folds.specs.Fold.{anyTo, firstTo}
+use Rattle.folds.proofs.AllAny.{below-cases, any-next}
 
 module _ (f : ℕ → Bool) where
   -- none so far, none at n

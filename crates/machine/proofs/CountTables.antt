@@ -1,14 +1,13 @@
 -- Laws of a table of sequence counts.
-use Prim.Native.Nat.{ℕ, _≤_, _<_}
-use mathlib.Core.Path.{_≡_, refl, ap, sym, _∙_}
+use Prim.Native.Nat.{ℕ, _<_}
+use mathlib.Core.Path.{_≡_}
 use mathlib.Core.Bool.{true}
 use mathlib.Core.List.{List}
-use lib.ListN.{getD, set, length, replicate}
+use lib.ListN.{getD, set, length}
 use lib.Seq.{getD-set-same, getD-set-other, set-out}
 use native.Mathlib.Omega.{arith}
 use native.Mathlib.Decide.{decLt, ℕ-discrete}
 use borrow.Author.Tests.{lt-ltb, ltb-true}
-use Rattle.folds.specs.Fold.{allTo}
 use Rattle.folds.proofs.AllAny.{all-at, all-intro}
 use Rattle.machine.specs.Counts.{countBelow, countsBelow}
 

@@ -1,7 +1,4 @@
 // Cases of the master.
-use crate::Hold;
-use crate::Master;
-use crate::Phase;
 use crate::middle;
 use crate::narrow;
 use crate::output::print;
@@ -15,6 +12,9 @@ use crate::wide;
 use master::Answer;
 use master::Command;
 use master::Event;
+use master::Hold;
+use master::Master;
+use master::Phase;
 
 fn phase_of(x: u64) -> Phase {
     match x {

@@ -1,6 +1,4 @@
 // Cases of a node.
-use crate::Delay;
-use crate::Node;
 use crate::middle;
 use crate::narrow;
 use crate::output::print;
@@ -12,7 +10,9 @@ use crate::plan_of;
 use crate::state_of;
 use crate::wide;
 use node::Command;
+use node::Delay;
 use node::Event;
+use node::Node;
 
 fn delay_of(x: u64) -> Delay {
     if x == 0 {

@@ -3,7 +3,6 @@ use Prim.Native.Nat.{ℕ, _+_}
 use mathlib.Core.Path.{_≡_, refl, ap, sym, _∙_}
 use mathlib.Core.Bool.{Bool, true, false}
 use lib.Dec.{ltb, eqb}
-use native.Mathlib.Omega.{arith}
 use Rattle.folds.specs.Fold.{firstTo}
 use Rattle.folds.proofs.Choices.{by-test, no-way}
 use Rattle.machine.specs.declared.State.{State}
@@ -16,18 +15,17 @@ use Rattle.plan.specs.Rules.{planRefusal}
 use Rattle.plan.specs.Answers.{masterNumber, isCounted, accepts}
 use Rattle.plan.specs.Find.{findRow}
 use Rattle.master.specs.declared.Phase.{Phase}
-use Rattle.master.specs.declared.Command.{Command}
 use Rattle.master.specs.declared.Answer.{Answer}
 use Rattle.master.specs.declared.Master.{Master}
 use Rattle.master.specs.declared.Event.{Event}
 use Rattle.master.specs.declared.Reply.{Reply}
-use Rattle.master.specs.Changes.{withPermission, letGo, letAllGo, hold, callBackBy, callBack}
+use Rattle.master.specs.Changes.{withPermission, letGo, letAllGo, callBackBy, callBack}
 use Rattle.master.specs.Clock.{clockOn, switched, isOff, closing}
 use Rattle.master.specs.Range.{inRange}
 use Rattle.master.specs.Ticks.{aged, tickBy}
 use Rattle.master.specs.Waking.{wakeUpBy, permissionStep}
 use Rattle.master.specs.Sleeping.{notHeld, sleepAskBy, sendResultBy}
-use Rattle.master.specs.Answers.{judged, counted, wholeStep, rowStep, answerBy}
+use Rattle.master.specs.Answers.{judged, counted, rowStep, answerBy}
 use Rattle.master.specs.Step.{eventRight, act, masterStep}
 
 pub call-back-state : (m : Master) → callBack m .state ≡ m .state

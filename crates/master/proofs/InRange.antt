@@ -1,15 +1,15 @@
 -- From a state in range, under an accepted plan, every step gives a state in range.
-use Prim.Native.Nat.{ℕ, _+_, _-_, _%_, _≤_, _<_}
-use mathlib.Core.Path.{_≡_, refl, ap, sym, _∙_}
+use Prim.Native.Nat.{ℕ, _+_, _-_, _<_}
+use mathlib.Core.Path.{_≡_, refl, ap, _∙_}
 use mathlib.Core.Bool.{Bool, true, false, _&&_}
 use mathlib.Core.List.{List}
 use lib.Dec.{leb, ltb, eqb}
-use lib.ListN.{getD, set, length, replicate, getD-replicate}
+use lib.ListN.{getD, set, length, getD-replicate}
 use lib.Seq.{getD-set-same, getD-set-other, set-out}
 use native.Mathlib.Omega.{arith}
 use native.Mathlib.Decide.{decLt, ℕ-discrete}
-use borrow.Author.Tests.{lt-ltb, le-leb, leb-true, ltb-true, ltb-false}
-use Rattle.folds.specs.Fold.{pick, allTo, firstTo}
+use borrow.Author.Tests.{lt-ltb, le-leb, ltb-true}
+use Rattle.folds.specs.Fold.{allTo, firstTo}
 use Rattle.folds.proofs.AllAny.{and-l, and-r, all-at, all-intro}
 use Rattle.folds.proofs.Choices.{by-test}
 use Rattle.folds.proofs.Tables.{getD-tab}
@@ -20,7 +20,7 @@ use Rattle.plan.specs.declared.Row.{Row}
 use Rattle.plan.specs.declared.Times.{Times}
 use Rattle.plan.specs.declared.Lookup.{Lookup}
 use Rattle.plan.specs.declared.Plan.{Plan}
-use Rattle.plan.specs.Rules.{planRefusal, rowsRight}
+use Rattle.plan.specs.Rules.{planRefusal}
 use Rattle.plan.specs.Answers.{masterNumber, isCounted, accepts}
 use Rattle.plan.specs.Find.{findRow}
 use Rattle.plan.proofs.Accepted.{accepted, TimesFit, times-fit}
@@ -31,12 +31,12 @@ use Rattle.master.specs.declared.Answer.{Answer}
 use Rattle.master.specs.declared.Master.{Master}
 use Rattle.master.specs.declared.Event.{Event}
 use Rattle.master.specs.declared.Reply.{Reply}
-use Rattle.master.specs.Changes.{noHold, noHolds, noCounts, powerOn, inPhase, withPermission, withHolds, letGo, letAllGo, hold, callBackBy, callBack, refuse}
+use Rattle.master.specs.Changes.{noHold, noHolds, noCounts, powerOn, inPhase, withPermission, withHolds, letGo, letAllGo, hold, callBackBy, callBack}
 use Rattle.master.specs.Range.{isOpen, phaseRight, delayRight, holdRight, holdRightAt, holdsRight, inRange}
-use Rattle.master.specs.Ticks.{older, olderAt, allOlder, aged, standbyTick, closingTick, tickBy}
+use Rattle.master.specs.Ticks.{older, olderAt, allOlder, aged, tickBy}
 use Rattle.master.specs.Waking.{wakeUpBy, permissionStep}
-use Rattle.master.specs.Sleeping.{notHeld, openAsk, sleepAskBy, sendResultBy}
-use Rattle.master.specs.Answers.{damaged, judged, counted, wholeStep, rowStep, answerRow, answerBy}
+use Rattle.master.specs.Sleeping.{notHeld, sleepAskBy, sendResultBy}
+use Rattle.master.specs.Answers.{damaged, judged, counted, wholeStep, rowStep, answerBy}
 use Rattle.master.specs.Step.{eventRight, act, masterStep}
 
 -- what a state in range keeps

@@ -1,5 +1,4 @@
 -- The master's step.
-use Prim.Native.Nat.{ℕ}
 use mathlib.Core.Bool.{Bool, true, _&&_}
 use lib.Dec.{ltb, eqb}
 use Rattle.folds.specs.Fold.{pick}

@@ -1,6 +1,6 @@
 -- The master's ticks.
 use Prim.Native.Nat.{ℕ, _+_, _%_, _^_}
-use mathlib.Core.Bool.{Bool, true}
+use mathlib.Core.Bool.{true}
 use mathlib.Core.List.{List}
 use lib.Dec.{ltb}
 use lib.ListN.{getD}
@@ -37,17 +37,25 @@ aged window m =
       ticks = (m .ticks + 1) % 2 ^ 32;
     }
 
--- "Standby: at the C-th tick, command clock on, go Normal, counts all 4"
+-- "go Normal, counts all 4"
+abbrev pub toNormal : Master → Master
+toNormal m = inPhase Phase.Open (inState State.Normal (withCounts noCounts m))
+
+-- "go Sleep, phase 0, let all go"
+abbrev pub toSleep : Master → Master
+toSleep m = inPhase Phase.Open (inState State.Sleep (letAllGo m))
+
+-- "Standby: at the C-th tick, command clock on"
 abbrev pub standbyTick : ℕ → Master → Reply
 standbyTick start m =
     pick (ltb (m .delay + 1) start) (silent (withDelay (m .delay + 1) m))
-    (commands Command.ClockOn (inPhase Phase.Open (inState State.Normal (withCounts noCounts m))))
+    (commands Command.ClockOn (toNormal m))
 
--- "Closing: at the D-th, command clock off, go Sleep, phase 0, let all go"
+-- "Closing: at the D-th, command clock off"
 abbrev pub closingTick : ℕ → Master → Reply
 closingTick stop m =
     pick (ltb (m .delay + 1) stop) (silent (withDelay (m .delay + 1) m))
-    (commands Command.ClockOff (inPhase Phase.Open (inState State.Sleep (letAllGo m))))
+    (commands Command.ClockOff (toSleep m))
 
 abbrev pub tickBy : Times → State → Phase → Master → Reply
 tickBy t State.Sleep phase m = silent m

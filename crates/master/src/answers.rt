@@ -1,6 +1,6 @@
 // Answers that reach the master.
 ghost use mathlib.Core.Path.{_≡_};
-ghost use Rattle.master.specs.Answers.{lostAfter, counted, damaged, judged, wholeStep, rowStep, answerRow, answerStep};
+ghost use Rattle.master.specs.Answers.{lostAfter, damaged, judged, wholeStep, rowStep, answerStep};
 use crate::Answer;
 use crate::Command;
 use crate::Master;

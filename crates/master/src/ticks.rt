@@ -1,6 +1,6 @@
 // Ticks of the master.
 ghost use mathlib.Core.Path.{_≡_};
-ghost use Rattle.master.specs.Ticks.{aged, standbyTick, closingTick, tickStep};
+ghost use Rattle.master.specs.Ticks.{aged, toNormal, toSleep, standbyTick, closingTick, tickStep};
 use crate::Command;
 use crate::Master;
 use crate::Phase;
@@ -25,6 +25,30 @@ impl Master {
         }
     }
 
+    fn to_normal(self) -> Master
+        ensures { λ r. ⌜ r ≡ toNormal self ⌝ }
+    {
+        Master {
+            state: State::Normal,
+            phase: Phase::Open,
+            counts: [Master::NO_COUNT; 128],
+            delay: 0,
+            ..self
+        }
+    }
+
+    fn to_sleep(self) -> Master
+        ensures { λ r. ⌜ r ≡ toSleep self ⌝ }
+    {
+        Master {
+            state: State::Sleep,
+            phase: Phase::Open,
+            holds: [Master::NO_HOLD; 16],
+            delay: 0,
+            ..self
+        }
+    }
+
     fn standby_tick(self, start: u16) -> Reply
         ensures { λ r. ⌜ r ≡ standbyTick start self ⌝ }
     {
@@ -35,14 +59,7 @@ impl Master {
                 ..self
             })
         } else {
-            let awake = Master {
-                state: State::Normal,
-                phase: Phase::Open,
-                counts: [Master::NO_COUNT; 128],
-                delay: 0,
-                ..self
-            };
-            commands(awake, Command::ClockOn)
+            commands(self.to_normal(), Command::ClockOn)
         }
     }
 
@@ -56,14 +73,7 @@ impl Master {
                 ..self
             })
         } else {
-            let asleep = Master {
-                state: State::Sleep,
-                phase: Phase::Open,
-                holds: [Master::NO_HOLD; 16],
-                delay: 0,
-                ..self
-            };
-            commands(asleep, Command::ClockOff)
+            commands(self.to_sleep(), Command::ClockOff)
         }
     }
 

@@ -1,18 +1,18 @@
 -- From a state in range, under an accepted plan, every step gives a state in range.
 use Prim.Native.Nat.{ℕ, _+_, _*_, _≤_, _<_}
-use mathlib.Core.Path.{_≡_, refl, ap, sym, _∙_}
-use mathlib.Core.Bool.{Bool, true, false, _&&_, not}
+use mathlib.Core.Path.{_≡_, refl}
+use mathlib.Core.Bool.{Bool, true, false, _&&_}
 use mathlib.Core.List.{List}
 use lib.Dec.{leb, ltb, eqb}
 use lib.ListN.{getD, set, replicate}
 use native.Mathlib.Omega.{arith}
-use borrow.Author.Tests.{lt-ltb, le-leb, leb-true, ltb-true, ltb-false}
+use borrow.Author.Tests.{lt-ltb, le-leb, leb-true, ltb-true}
 use Rattle.folds.specs.Fold.{pick, allTo}
 use Rattle.folds.proofs.AllAny.{and-l, and-r}
 use Rattle.folds.proofs.Choices.{by-test}
 use Rattle.machine.specs.declared.State.{State}
 use Rattle.machine.specs.Counts.{countsBelow}
-use Rattle.machine.proofs.CountTables.{count-at, counts-set}
+use Rattle.machine.proofs.CountTables.{counts-set}
 use Rattle.plan.specs.declared.Times.{Times}
 use Rattle.plan.specs.declared.Lookup.{Lookup}
 use Rattle.plan.specs.declared.Plan.{Plan}
@@ -24,11 +24,11 @@ use Rattle.node.specs.declared.Delay.{Delay}
 use Rattle.node.specs.declared.Node.{Node}
 use Rattle.node.specs.declared.Event.{Event}
 use Rattle.node.specs.declared.Reply.{Reply}
-use Rattle.node.specs.Changes.{asleep, powerOn, toSleep, toNormal, toStandby, withPermission, withWake, withHeard, withQuiet, withDelay, withStandby, nextCount, afterSending, silent, refuse}
+use Rattle.node.specs.Changes.{asleep, powerOn, toStandby, withPermission, withWake, withHeard, withDelay, withStandby, nextCount, silent}
 use Rattle.node.specs.Range.{delayRight, standbyRight, inRange}
 use Rattle.node.specs.Ticks.{quietTick, awakeTick, normalBy, callerTick, listenerTick, standbyTick, tickBy, tickStep}
-use Rattle.node.specs.Waking.{pulseBy, pulseStep, wakeAskBy, wakeAskStep, permissionStep}
-use Rattle.node.specs.Sending.{inNormal, sleepMessageStep, sendStep, requestRow, requestStep, sendOwn, sendAskRow, sendAskStep}
+use Rattle.node.specs.Waking.{pulseBy, wakeAskBy, permissionStep}
+use Rattle.node.specs.Sending.{inNormal, sleepMessageStep, sendStep, requestRow, sendOwn, sendAskRow}
 use Rattle.node.specs.Step.{eventRight, act, nodeStep}
 
 -- what a state in range keeps

@@ -1,6 +1,6 @@
 // The node machine.
 ghost use mathlib.Core.Path.{_≡_};
-ghost use Rattle.node.specs.Changes.{powerOn, toSleep, toNormal, toStandby, nextCount, silent, calls, refuse};
+ghost use Rattle.node.specs.Changes.{powerOn, toSleep, toNormal, toStandby, silent, calls, refuse};
 ghost use Rattle.node.specs.Step.{eventRight, act, nodeStep};
 use machine::State;
 use plan::Lookup;

@@ -9,11 +9,14 @@ cast-if1 c = search needs
 add-if1 : tie.Need-add-if1
 add-if1 c = search needs
 
-add-t10 : tie.Need-add-t10
-add-t10 c = search needs
+add-t9 : tie.Need-add-t9
+add-t9 c = search needs
 
 silent-requires : tie.Need-silent-requires
 silent-requires c κs = search needs
+
+to-sleep-requires : tie.Need-to-sleep-requires
+to-sleep-requires c κs = search needs
 
 commands-requires : tie.Need-commands-requires
 commands-requires c κs = search needs
@@ -29,10 +32,19 @@ returns-2 : tie.Need-returns-2
 returns-2 c =
     rw (
       c .commands .ensures,
+      c .before .to-sleep .ensures,
       le-ltb _ _ (c .before .before .if1 .left),
     )
 
 pub closing-tick-spec : {M : Type 1} → statement M
 closing-tick-spec =
     tie.close
-    (tie.spec cast-if1 add-if1 add-t10 silent-requires commands-requires returns returns-2)
+    (tie.spec
+    cast-if1
+    add-if1
+    add-t9
+    silent-requires
+    to-sleep-requires
+    commands-requires
+    returns
+    returns-2)

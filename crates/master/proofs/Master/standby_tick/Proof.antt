@@ -9,11 +9,14 @@ cast-if1 c = search needs
 add-if1 : tie.Need-add-if1
 add-if1 c = search needs
 
-add-t10 : tie.Need-add-t10
-add-t10 c = search needs
+add-t9 : tie.Need-add-t9
+add-t9 c = search needs
 
 silent-requires : tie.Need-silent-requires
 silent-requires c κs = search needs
+
+to-normal-requires : tie.Need-to-normal-requires
+to-normal-requires c κs = search needs
 
 commands-requires : tie.Need-commands-requires
 commands-requires c κs = search needs
@@ -29,10 +32,19 @@ returns-2 : tie.Need-returns-2
 returns-2 c =
     rw (
       c .commands .ensures,
+      c .before .to-normal .ensures,
       le-ltb _ _ (c .before .before .if1 .left),
     )
 
 pub standby-tick-spec : {M : Type 1} → statement M
 standby-tick-spec =
     tie.close
-    (tie.spec cast-if1 add-if1 add-t10 silent-requires commands-requires returns returns-2)
+    (tie.spec
+    cast-if1
+    add-if1
+    add-t9
+    silent-requires
+    to-normal-requires
+    commands-requires
+    returns
+    returns-2)

@@ -1,11 +1,10 @@
 -- Each permission so far is held. Assumes nothing.
 use Prim.Native.Nat.{_-_, _≤_}
-use mathlib.Core.Path.{_≡_, refl, sym, ap, _∙_}
-use mathlib.Core.Bool.{true, false, not}
+use mathlib.Core.Path.{_≡_, sym, ap}
+use mathlib.Core.Bool.{false, not}
 use native.Mathlib.Omega.{arith}
-use borrow.Author.Tests.{not-false}
-use lib.ListN.{length, getD, List·getD-eq-default}
-use Rattle.folds.specs.Fold.{anyTo, firstTo}
+use lib.ListN.{length, List·getD-eq-default}
+use Rattle.folds.specs.Fold.{anyTo}
 use Rattle.folds.proofs.AllAny.{any-none}
 use Rattle.folds.proofs.First.{none-next, first-none, first-found}
 use Rattle.master.specs.declared.Hold.{Hold}

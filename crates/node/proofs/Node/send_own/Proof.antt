@@ -1,3 +1,6 @@
+-- A polled node sends where it was heard. Assumes nothing.
+use mathlib.Core.Path.{_≡_}
+use mathlib.Core.Bool.{true, false}
 use borrow.Author.Needs.{needs}
 use Rattle.node.proofs.Node.send_own.Statement.{statement}
 use Rattle.node.proofs.Node.send_own.Tie as tie
@@ -13,19 +16,13 @@ send-requires-2 c κs = search needs
 
 returns : tie.Need-returns
 returns c =
-    rw (
-      c .send .ensures,
-      c .before .before .if1 .taken,
-      c .before .if2 .taken,
-    )
+    let heard : c .before .before .before .args .self .heard ≡ true = c .before .if2 .taken in
+    rw (c .send .ensures, c .before .before .if1 .taken, heard)
 
 returns-2 : tie.Need-returns-2
 returns-2 c =
-    rw (
-      c .refuse .ensures,
-      c .before .before .if1 .taken,
-      c .before .if2 .left,
-    )
+    let unheard : c .before .before .before .args .self .heard ≡ false = c .before .if2 .left in
+    rw (c .refuse .ensures, c .before .before .if1 .taken, unheard)
 
 returns-3 : tie.Need-returns-3
 returns-3 c =
