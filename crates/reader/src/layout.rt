@@ -1,7 +1,7 @@
-// The record of a set's bytes, whether or not they keep the rules.
+// The plan record of bytes, whether or not they keep the rules: of a set's, and of a packed record's.
 ghost use mathlib.Core.Path.{_≡_};
-ghost use Prim.Native.Nat.{_<_};
-ghost use Rattle.reader.specs.Layout.{timesOf, entryFrom, nodeOf, nodesOf, rowcountOf, rowPlace, rowFrom, rowOf, rowsOf, planOf};
+ghost use Prim.Native.Nat.{_≤_, _<_};
+ghost use Rattle.reader.specs.Layout.{timesFrom, entryFrom, nodeOf, nodesOf, rowcountOf, rowPlace, rowFrom, rowOf, rowsOf, planOf};
 use blocks::byte_at;
 use blocks::number_at;
 use plan::NodeEntry;
@@ -9,38 +9,39 @@ use plan::Plan;
 use plan::Row;
 use plan::Times;
 
-fn times_of(s: &[u8]) -> Times
-    ensures { λ r. ⌜ r ≡ timesOf (now (s .entry)) ⌝ }
+pub(crate) fn times_from(s: &[u8], o: usize) -> Times
+    requires { ⌜ o < 4096 ⌝ }
+    ensures { λ r. ⌜ r ≡ timesFrom (now (s .entry)) o ⌝ }
 {
     Times {
-        window: number_at(s, 6),
-        stop: number_at(s, 8),
-        sleep: number_at(s, 10),
-        quiet: number_at(s, 12),
-        recovery: number_at(s, 14),
-        space: number_at(s, 16),
-        start: number_at(s, 18),
+        window: number_at(s, o),
+        stop: number_at(s, o + 2),
+        sleep: number_at(s, o + 4),
+        quiet: number_at(s, o + 6),
+        recovery: number_at(s, o + 8),
+        space: number_at(s, o + 10),
+        start: number_at(s, o + 12),
     }
 }
 
-fn entry_from(s: &[u8], k: usize) -> NodeEntry
-    requires { ⌜ k < 16 ⌝ }
-    ensures { λ r. ⌜ r ≡ entryFrom (now (s .entry)) k ⌝ }
+fn entry_from(s: &[u8], o: usize) -> NodeEntry
+    requires { ⌜ o < 4096 ⌝ }
+    ensures { λ r. ⌜ r ≡ entryFrom (now (s .entry)) o ⌝ }
 {
     NodeEntry {
-        address: byte_at(s, 32 + 4 * k),
-        class: byte_at(s, 33 + 4 * k),
-        method: byte_at(s, 34 + 4 * k),
-        reserved: byte_at(s, 35 + 4 * k),
+        address: byte_at(s, o),
+        class: byte_at(s, o + 1),
+        method: byte_at(s, o + 2),
+        reserved: byte_at(s, o + 3),
     }
 }
 
-fn node_of(s: &[u8], count: usize, k: usize) -> NodeEntry
-    requires { ⌜ k < 16 ⌝ }
-    ensures { λ r. ⌜ r ≡ nodeOf (now (s .entry)) count k ⌝ }
+fn node_of(s: &[u8], start: usize, count: usize, k: usize) -> NodeEntry
+    requires { ⌜ (start ≤ 2048) × (k < 16) ⌝ }
+    ensures { λ r. ⌜ r ≡ nodeOf (now (s .entry)) start count k ⌝ }
 {
     if k < count {
-        entry_from(s, k)
+        entry_from(s, start + 4 * k)
     } else {
         NodeEntry {
             address: 0,
@@ -51,8 +52,9 @@ fn node_of(s: &[u8], count: usize, k: usize) -> NodeEntry
     }
 }
 
-fn nodes_of(s: &[u8], count: usize) -> [NodeEntry; 16]
-    ensures { λ r. ⌜ r ≡ nodesOf (now (s .entry)) count ⌝ }
+pub(crate) fn nodes_of(s: &[u8], start: usize, count: usize) -> [NodeEntry; 16]
+    requires { ⌜ start ≤ 2048 ⌝ }
+    ensures { λ r. ⌜ r ≡ nodesOf (now (s .entry)) start count ⌝ }
 {
     let zero = NodeEntry {
         address: 0,
@@ -63,7 +65,7 @@ fn nodes_of(s: &[u8], count: usize) -> [NodeEntry; 16]
     let mut nodes = [zero; 16];
     let mut k: usize = 0;
     while k < 16 {
-        nodes[k] = node_of(s, count, k);
+        nodes[k] = node_of(s, start, count, k);
         k += 1;
     }
     nodes
@@ -79,11 +81,15 @@ fn rowcount_of(s: &[u8]) -> u16
     }
 }
 
-fn row_place(j: usize) -> usize
-    requires { ⌜ j < 127 ⌝ }
-    ensures { λ r. ⌜ (r ≡ rowPlace j) × (r < 4096) ⌝ }
+fn row_place(first: usize, second: usize, j: usize) -> usize
+    requires { ⌜ (first ≤ 2048) × (second ≤ 2048) × (j < 127) ⌝ }
+    ensures { λ r. ⌜ (r ≡ rowPlace first second j) × (r < 4096) ⌝ }
 {
-    if j < 100 { 520 + 4 * j } else { 632 + 4 * j }
+    if j < 100 {
+        first + 4 * j
+    } else {
+        second + 4 * j
+    }
 }
 
 // One test for four bytes, since this is done 127 times.
@@ -107,12 +113,12 @@ fn row_from(s: &[u8], o: usize) -> Row
     }
 }
 
-fn row_of(s: &[u8], count: usize, j: usize) -> Row
-    requires { ⌜ j < 127 ⌝ }
-    ensures { λ r. ⌜ r ≡ rowOf (now (s .entry)) count j ⌝ }
+fn row_of(s: &[u8], first: usize, second: usize, count: usize, j: usize) -> Row
+    requires { ⌜ (first ≤ 2048) × (second ≤ 2048) × (j < 127) ⌝ }
+    ensures { λ r. ⌜ r ≡ rowOf (now (s .entry)) first second count j ⌝ }
 {
     if j < count {
-        row_from(s, row_place(j))
+        row_from(s, row_place(first, second, j))
     } else {
         Row {
             reqid: 0,
@@ -123,8 +129,9 @@ fn row_of(s: &[u8], count: usize, j: usize) -> Row
     }
 }
 
-fn rows_of(s: &[u8], count: usize) -> [Row; 127]
-    ensures { λ r. ⌜ r ≡ rowsOf (now (s .entry)) count ⌝ }
+pub(crate) fn rows_of(s: &[u8], first: usize, second: usize, count: usize) -> [Row; 127]
+    requires { ⌜ (first ≤ 2048) × (second ≤ 2048) ⌝ }
+    ensures { λ r. ⌜ r ≡ rowsOf (now (s .entry)) first second count ⌝ }
 {
     let zero = Row {
         reqid: 0,
@@ -135,7 +142,7 @@ fn rows_of(s: &[u8], count: usize) -> [Row; 127]
     let mut rows = [zero; 127];
     let mut j: usize = 0;
     while j < 127 {
-        rows[j] = row_of(s, count, j);
+        rows[j] = row_of(s, first, second, count, j);
         j += 1;
     }
     rows
@@ -146,9 +153,9 @@ pub(crate) fn plan_of(s: &[u8]) -> Plan
 {
     let nodecount = byte_at(s, 4);
     let rowcount = rowcount_of(s);
-    let times = times_of(s);
-    let nodes = nodes_of(s, nodecount as usize);
-    let rows = rows_of(s, rowcount as usize);
+    let times = times_from(s, 6);
+    let nodes = nodes_of(s, 32, nodecount as usize);
+    let rows = rows_of(s, 520, 632, rowcount as usize);
     Plan {
         revision: number_at(s, 2),
         nodecount,

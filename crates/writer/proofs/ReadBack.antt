@@ -8,38 +8,35 @@ use native.Mathlib.Omega.{arith}
 use borrow.Author.Tests.{eq-eqb, ne-eqb, leb-true, leb-false, ltb-true, ltb-false}
 use Rattle.folds.specs.Fold.{tab}
 use Rattle.folds.proofs.Tables.{tab-ext}
-use Rattle.blocks.specs.Bytes.{byte, number, highByte, lowByte}
+use Rattle.blocks.specs.Bytes.{byte, number}
+use Rattle.blocks.proofs.Halves.{from-halves}
 use Rattle.plan.specs.declared.Plan.{Plan}
 use Rattle.plan.specs.Record.{entryAt, rowAt, usedEntry, usedRow, unusedZero}
-use Rattle.reader.specs.Layout.{timesOf, entryFrom, nodeOf, nodesOf, rowcountOf, rowPlace, rowFrom, rowOf, rowsOf, planOf}
+use Rattle.reader.specs.Layout.{timesFrom, entryFrom, nodeOf, nodesOf, rowcountOf, rowPlace, rowFrom, rowOf, rowsOf, planOf}
 use Rattle.writer.specs.Write.{planHead, rowsIn, messageHead, entryBytes, rowBytes, writeSet}
 use Rattle.writer.proofs.Lengths.{blockCount, length-short, length-long}
 use Rattle.writer.proofs.SetBytes.{set-long, head-byte, node-byte, message-head, message-row}
 
--- a number from its two bytes
-two : (x a b : ℕ) → a ≡ highByte x → b ≡ lowByte x → a * 256 + b ≡ x
-two x a b p q = rw (p, q) (omega arith)
-
 module _ (p : Plan) (few-nodes : p .nodecount ≤ 16) (few-rows : p .rowcount ≤ 127) where
   pub revision-back : number (writeSet p) 2 ≡ p .revision
   unfolding planHead
-  revision-back = two _ _ _ (head-byte p 2 (omega arith)) (head-byte p 3 (omega arith))
+  revision-back = from-halves _ _ _ (head-byte p 2 (omega arith)) (head-byte p 3 (omega arith))
 
   pub nodecount-back : byte (writeSet p) 4 ≡ p .nodecount
   unfolding planHead
   nodecount-back = head-byte p 4 (omega arith)
 
-  pub times-back : timesOf (writeSet p) ≡ p .times
-  unfolding timesOf planHead
+  pub times-back : timesFrom (writeSet p) 6 ≡ p .times
+  unfolding timesFrom planHead
   times-back =
       λ i. record {
-        window = two _ _ _ (head-byte p 6 (omega arith)) (head-byte p 7 (omega arith)) i;
-        stop = two _ _ _ (head-byte p 8 (omega arith)) (head-byte p 9 (omega arith)) i;
-        sleep = two _ _ _ (head-byte p 10 (omega arith)) (head-byte p 11 (omega arith)) i;
-        quiet = two _ _ _ (head-byte p 12 (omega arith)) (head-byte p 13 (omega arith)) i;
-        recovery = two _ _ _ (head-byte p 14 (omega arith)) (head-byte p 15 (omega arith)) i;
-        space = two _ _ _ (head-byte p 16 (omega arith)) (head-byte p 17 (omega arith)) i;
-        start = two _ _ _ (head-byte p 18 (omega arith)) (head-byte p 19 (omega arith)) i;
+        window = from-halves _ _ _ (head-byte p 6 (omega arith)) (head-byte p 7 (omega arith)) i;
+        stop = from-halves _ _ _ (head-byte p 8 (omega arith)) (head-byte p 9 (omega arith)) i;
+        sleep = from-halves _ _ _ (head-byte p 10 (omega arith)) (head-byte p 11 (omega arith)) i;
+        quiet = from-halves _ _ _ (head-byte p 12 (omega arith)) (head-byte p 13 (omega arith)) i;
+        recovery = from-halves _ _ _ (head-byte p 14 (omega arith)) (head-byte p 15 (omega arith)) i;
+        space = from-halves _ _ _ (head-byte p 16 (omega arith)) (head-byte p 17 (omega arith)) i;
+        start = from-halves _ _ _ (head-byte p 18 (omega arith)) (head-byte p 19 (omega arith)) i;
       }
 
   pub rowcount-back : rowcountOf (writeSet p) ≡ p .rowcount
@@ -55,33 +52,33 @@ module _ (p : Plan) (few-nodes : p .nodecount ≤ 16) (few-rows : p .rowcount �
           let z : length (writeSet p) ≡ 1536 = set-long p ∙ length-long (p .rowcount) many in
           rw (ne-eqb (length (writeSet p)) 1024 (λ q. omega arith)) (ap (λ x. 100 + x) (message-head p 2 (omega arith) (rw e (omega arith)) 4 (omega arith)) ∙ omega arith)
 
-  entry-back : (k : ℕ) → k < p .nodecount → entryFrom (writeSet p) k ≡ entryAt (p .nodes) k
+  entry-back : (k : ℕ) → k < p .nodecount → entryFrom (writeSet p) (32 + 4 * k) ≡ entryAt (p .nodes) k
   unfolding entryFrom
   entry-back k h =
       λ i. record {
         address = at 0 (32 + 4 * k) (omega arith) (omega arith) i;
-        class = at 1 (33 + 4 * k) (omega arith) (omega arith) i;
-        method = at 2 (34 + 4 * k) (omega arith) (omega arith) i;
-        reserved = at 3 (35 + 4 * k) (omega arith) (omega arith) i;
+        class = at 1 (32 + 4 * k + 1) (omega arith) refl i;
+        method = at 2 (32 + 4 * k + 2) (omega arith) refl i;
+        reserved = at 3 (32 + 4 * k + 3) (omega arith) refl i;
       }
     where
       at : (m o : ℕ) → m < 4 → o ≡ 32 + 4 * k + m → byte (writeSet p) o ≡ getD (entryBytes (entryAt (p .nodes) k)) m 0
       at m o a b = rw b (node-byte p k m h few-nodes a)
 
-  pub nodes-back : nodesOf (writeSet p) (byte (writeSet p) 4) ≡ tab 16 (usedEntry p)
+  pub nodes-back : nodesOf (writeSet p) 32 (byte (writeSet p) 4) ≡ tab 16 (usedEntry p)
   unfolding nodesOf nodeOf usedEntry
-  nodes-back = rw nodecount-back (tab-ext 16 (nodeOf (writeSet p) (p .nodecount)) (usedEntry p) (λ k h. go k (ltb k (p .nodecount)) refl))
+  nodes-back = rw nodecount-back (tab-ext 16 (nodeOf (writeSet p) 32 (p .nodecount)) (usedEntry p) (λ k h. go k (ltb k (p .nodecount)) refl))
     where
-      go : (k : ℕ) (b : Bool) → ltb k (p .nodecount) ≡ b → nodeOf (writeSet p) (p .nodecount) k ≡ usedEntry p k
+      go : (k : ℕ) (b : Bool) → ltb k (p .nodecount) ≡ b → nodeOf (writeSet p) 32 (p .nodecount) k ≡ usedEntry p k
       go k true e = rw e (entry-back k (ltb-true _ _ e))
       go k false e = rw e
 
   -- byte m of row j
-  row-byte : (j m : ℕ) → j < p .rowcount → m < 4 → byte (writeSet p) (rowPlace j + m) ≡ getD (rowBytes (rowAt (p .rows) j)) m 0
+  row-byte : (j m : ℕ) → j < p .rowcount → m < 4 → byte (writeSet p) (rowPlace 520 632 j + m) ≡ getD (rowBytes (rowAt (p .rows) j)) m 0
   unfolding rowPlace rowsIn
   row-byte j m h q = go (ltb j 100) refl (leb (p .rowcount) 100) refl
     where
-      go : (a : Bool) → ltb j 100 ≡ a → (b : Bool) → leb (p .rowcount) 100 ≡ b → byte (writeSet p) (rowPlace j + m) ≡ getD (rowBytes (rowAt (p .rows) j)) m 0
+      go : (a : Bool) → ltb j 100 ≡ a → (b : Bool) → leb (p .rowcount) 100 ≡ b → byte (writeSet p) (rowPlace 520 632 j + m) ≡ getD (rowBytes (rowAt (p .rows) j)) m 0
       go true e b f =
           let near : j < 100 = ltb-true _ _ e in
           let o : 520 + 4 * j + m ≡ 512 * 1 + (8 + 4 * j + m) = omega arith in
@@ -98,10 +95,10 @@ module _ (p : Plan) (few-nodes : p .nodecount ≤ 16) (few-rows : p .rowcount �
           let z : 100 + (j - 100) ≡ j = omega arith in
           rw (e, o) (message-row p 2 (omega arith) (rw f (omega arith)) (j - 100) m (omega arith) (omega arith) q ∙ ap (λ k. getD (rowBytes (rowAt (p .rows) k)) m 0) z)
 
-  row-back : (j : ℕ) → j < p .rowcount → rowFrom (writeSet p) (rowPlace j) ≡ rowAt (p .rows) j
+  row-back : (j : ℕ) → j < p .rowcount → rowFrom (writeSet p) (rowPlace 520 632 j) ≡ rowAt (p .rows) j
   unfolding rowFrom
   row-back j h =
-      let z : rowPlace j + 0 ≡ rowPlace j = omega arith in
+      let z : rowPlace 520 632 j + 0 ≡ rowPlace 520 632 j = omega arith in
       λ i. record {
         reqid = (rw z at (row-byte j 0 h (omega arith))) i;
         publisher = row-byte j 1 h (omega arith) i;
@@ -109,11 +106,11 @@ module _ (p : Plan) (few-nodes : p .nodecount ≤ 16) (few-rows : p .rowcount �
         kind = row-byte j 3 h (omega arith) i;
       }
 
-  pub rows-back : rowsOf (writeSet p) (rowcountOf (writeSet p)) ≡ tab 127 (usedRow p)
+  pub rows-back : rowsOf (writeSet p) 520 632 (rowcountOf (writeSet p)) ≡ tab 127 (usedRow p)
   unfolding rowsOf rowOf usedRow
-  rows-back = rw rowcount-back (tab-ext 127 (rowOf (writeSet p) (p .rowcount)) (usedRow p) (λ k h. go k (ltb k (p .rowcount)) refl))
+  rows-back = rw rowcount-back (tab-ext 127 (rowOf (writeSet p) 520 632 (p .rowcount)) (usedRow p) (λ k h. go k (ltb k (p .rowcount)) refl))
     where
-      go : (k : ℕ) (b : Bool) → ltb k (p .rowcount) ≡ b → rowOf (writeSet p) (p .rowcount) k ≡ usedRow p k
+      go : (k : ℕ) (b : Bool) → ltb k (p .rowcount) ≡ b → rowOf (writeSet p) 520 632 (p .rowcount) k ≡ usedRow p k
       go k true e = rw e (row-back k (ltb-true _ _ e))
       go k false e = rw e
 
