@@ -1,7 +1,8 @@
 -- What a command of a node tells of it: when it calls, and what it sends.
 use Prim.Native.Nat.{ℕ, suc, _+_, _*_, _≤_, _<_}
-use mathlib.Core.Path.{_≡_, refl}
+use mathlib.Core.Path.{_≡_, refl, ap}
 use mathlib.Core.Bool.{Bool, true, false}
+use mathlib.Core.List.{List}
 use lib.Dec.{ltb, eqb}
 use lib.ListN.{getD}
 use native.Mathlib.Omega.{arith}
@@ -20,12 +21,10 @@ use Rattle.node.specs.declared.Command.{Command}
 use Rattle.node.specs.declared.Node.{Node}
 use Rattle.node.specs.declared.Event.{Event}
 use Rattle.node.specs.declared.Reply.{Reply}
-use Rattle.node.specs.Changes.{silent, withDelay, withWake}
-use Rattle.node.specs.Ticks.{awakeTick, normalBy, standbyTick, tickStep}
-use Rattle.node.specs.Waking.{pulseBy, wakeAskBy, permissionStep}
-use Rattle.node.specs.Sending.{inNormal, requestRow, sendAskRow}
+use Rattle.node.specs.Changes.{silent, withDelay, withHeard, withWake}
+use Rattle.node.specs.Ticks.{standbyTick, tickStep}
 use Rattle.node.specs.Step.{act}
-use Rattle.node.proofs.Cases.{split}
+use Rattle.node.proofs.Cases.{split, normal-any, pulse-any, wake-ask-any, permission-any, OnSending, in-normal, request-any, send-ask-any}
 use Rattle.node.proofs.InRange.{Fits}
 use Rattle.node.proofs.ErrorShows.{ErrorShows, unshown}
 use Rattle.node.proofs.WithoutClock.{ClockOff}
@@ -61,56 +60,11 @@ maySend p me n Event.SleepMessage count = ⊥
 maySend p me n (Event.Request reqid) count = ownRow me (findRow p reqid) n count
 maySend p me n (Event.SendAsk reqid) count = ownRow me (findRow p reqid) n count
 
-module _ (n : Node) (Pulse : Type 0) (Count : ℕ → Type 0) where
-  abbrev Told : Reply → Type 0
-  Told r = Tells n Pulse Count (r .command)
-
-  awake-tells : (limit : ℕ) (clock : Bool) (m : Node) → Told (awakeTick limit clock m)
-  awake-tells limit true m = tt
-  awake-tells limit false m = by-test Told (ltb (m .quiet + 1) limit) (λ l. tt) (λ l. by-test Told (m .permission) (λ y. tt) (λ y. tt))
-
-  normal-tells : (t : Times) (clock : Bool) (delay : Delay) (m : Node) → Told (normalBy t clock delay m)
-  normal-tells t clock Delay.Off m = awake-tells (t .quiet) clock m
-  normal-tells t clock (Delay.On ticks) m =
-      by-test Told (ltb (ticks + 1) (t .sleep)) (λ l. awake-tells (t .quiet) clock (withDelay (Delay.On (ticks + 1)) m)) (λ l. tt)
-
-  pulse-tells : (state : State) (m : Node) → Told (pulseBy state m)
-  pulse-tells State.Normal m = tt
-  pulse-tells State.Standby m = tt
-  pulse-tells State.Sleep m = tt
-
-  permission-tells : (permitted : Bool) (m : Node) → Told (permissionStep permitted m)
-  permission-tells permitted m = by-test Told permitted (λ y. by-test Told (m .error) (λ e. tt) (λ e. tt)) (λ y. tt)
-
-  in-normal-tells : (state : State) (r : Reply) → Told r → Told (inNormal state n r)
-  in-normal-tells State.Normal r h = h
-  in-normal-tells State.Standby r h = tt
-  in-normal-tells State.Sleep r h = tt
-
-wake-ask-tells : (n m : Node) (Count : ℕ → Type 0) (state : State) (caller : Bool) → Tells n (Unit {0}) Count (wakeAskBy state caller m .command)
-wake-ask-tells n m Count State.Normal caller = tt
-wake-ask-tells n m Count State.Standby true = tt
-wake-ask-tells n m Count State.Standby false = tt
-wake-ask-tells n m Count State.Sleep caller = tt
-
-request-tells : (n : Node) (me : ℕ) (row : Lookup) → Tells n ⊥ (ownRow me row n) (requestRow me row n .command)
-request-tells n me Lookup.Missing = tt
-request-tells n me (Lookup.Found row) =
-    by-test (λ (r : Reply). Tells n ⊥ (ownRow me (Lookup.Found row) n) (r .command)) (eqb (row .publisher) me)
-    (λ e. (refl, refl, (eqb-true (row .publisher) me e, refl)))
-    (λ e. tt)
-
-send-ask-tells : (n : Node) (me : ℕ) (polled : Bool) (row : Lookup) → Tells n ⊥ (ownRow me row n) (sendAskRow me polled row n .command)
-send-ask-tells n me polled Lookup.Missing = tt
-send-ask-tells n me polled (Lookup.Found row) =
-    by-test Told (eqb (row .publisher) me)
-    (λ e. by-test Told polled
-    (λ p. by-test Told (n .heard) (λ h. (refl, refl, (eqb-true (row .publisher) me e, refl))) (λ h. tt))
-    (λ p. (refl, refl, (eqb-true (row .publisher) me e, refl))))
-    (λ e. tt)
-  where
-    Told : Reply → Type 0
-    Told r = Tells n ⊥ (ownRow me (Lookup.Found row) n) (r .command)
+-- a node that sends its own row
+send-tells : (n m : Node) (me : ℕ) (row : Lookup) → m .permission ≡ n .permission → m .wake ≡ n .wake → m .counts ≡ n .counts
+    → OnSending (λ (r : Reply). Tells n ⊥ (ownRow me row n) (r .command)) me row m
+send-tells n m me Lookup.Missing p w c = tt
+send-tells n m me (Lookup.Found row) p w c = λ e. (p, w, (e, ap (λ (counts : List ℕ). getD counts (row .reqid) 0) c))
 
 -- a caller that calls again shows no error, so its count is that of the ticks at least
 standby-tells : (t : Times) (k : ℕ) (Count : ℕ → Type 0) (n : Node) (caller : Bool) → ErrorShows t (split n State.Standby caller (n .delay))
@@ -130,7 +84,9 @@ standby-tells t k Count n false h o =
 
 tick-tells : (t : Times) (k : ℕ) (Count : ℕ → Type 0) (clock : Bool) (n : Node) (state : State) → ErrorShows t (split n state (n .caller) (n .delay))
     → ClockOff t k (split n state (n .caller) (n .delay)) → Tells n (mayCall t k (Event.Tick clock)) Count (tickStep t clock (split n state (n .caller) (n .delay)) .command)
-tick-tells t k Count clock n State.Normal h o = normal-tells n (mayCall t k (Event.Tick clock)) Count t clock (n .delay) (split n State.Normal (n .caller) (n .delay))
+tick-tells t k Count clock n State.Normal h o =
+    normal-any (λ (r : Reply). Tells n (mayCall t k (Event.Tick clock)) Count (r .command)) (n .permission) (λ m e. tt) t clock (n .delay)
+    (split n State.Normal (n .caller) (n .delay)) refl
 tick-tells t k Count true n State.Standby h o = tt
 tick-tells t k Count false n State.Standby h o = standby-tells t k Count n (n .caller) h o
 tick-tells t k Count true n State.Sleep h o = tt
@@ -138,14 +94,20 @@ tick-tells t k Count false n State.Sleep h o = tt
 
 pub act-tells : (p : Plan) (me k : ℕ) (n : Node) (e : Event) → ErrorShows (p .times) n → ClockOff (p .times) k n
     → Tells n (mayCall (p .times) k e) (maySend p me n e) (act p me n e .command)
-act-tells p me k n (Event.Tick clock) h o = tick-tells (p .times) k _ clock n (n .state) h o
-act-tells p me k n Event.Pulse h o = pulse-tells n _ _ (n .state) n
-act-tells p me k n Event.WakeAsk h o = wake-ask-tells n (withWake n) _ (n .state) (n .caller)
-act-tells p me k n (Event.Permission permitted) h o = permission-tells n _ _ permitted n
-act-tells p me k n Event.SleepMessage h o = in-normal-tells n _ _ (n .state) (silent (withDelay (Delay.On 0) n)) tt
-act-tells p me k n (Event.Request reqid) h o = in-normal-tells n _ _ (n .state) (requestRow me (findRow p reqid) n) (request-tells n me (findRow p reqid))
-act-tells p me k n (Event.SendAsk reqid) h o =
-    in-normal-tells n _ _ (n .state) (sendAskRow me (isPolled p me) (findRow p reqid) n) (send-ask-tells n me (isPolled p me) (findRow p reqid))
+act-tells p me k n e h o = go e
+  where
+    Told : Event → Reply → Type 0
+    Told e r = Tells n (mayCall (p .times) k e) (maySend p me n e) (r .command)
+
+    go : (e : Event) → Told e (act p me n e)
+    go (Event.Tick clock) = tick-tells (p .times) k (maySend p me n (Event.Tick clock)) clock n (n .state) h o
+    go Event.Pulse = pulse-any (Told Event.Pulse) (n .permission) (λ m e. tt) (n .state) n refl
+    go Event.WakeAsk = wake-ask-any (Told Event.WakeAsk) (n .permission) (λ m e. tt) (λ m e. tt) (n .state) (n .caller) (withWake n) refl
+    go (Event.Permission permitted) = permission-any (Told (Event.Permission permitted)) permitted (λ m e. tt) n
+    go Event.SleepMessage = in-normal (Told Event.SleepMessage) n (λ number. tt) (n .state) (silent (withDelay (Delay.On 0) n)) tt
+    go (Event.Request reqid) =
+        request-any (Told (Event.Request reqid)) n (λ number. tt) me (findRow p reqid) tt (send-tells n (withHeard n) me (findRow p reqid) refl refl refl)
+    go (Event.SendAsk reqid) = send-ask-any (Told (Event.SendAsk reqid)) n (λ number. tt) me (isPolled p me) (findRow p reqid) (send-tells n n me (findRow p reqid) refl refl refl)
 
 -- the count of an answer lies in its range
 pub own-count : (p : Plan) (me reqid count : ℕ) (n : Node) → reqid < 128 → Fits (p .times) n → ownRow me (findRow p reqid) n count → count < 4

@@ -82,6 +82,6 @@ act-shows p me n (Event.Tick clock) h = tick-shows (p .times) clock n (n .state)
 act-shows p me n Event.Pulse h = pulse-shows (p .times) n (n .state) (n .caller) (n .delay) h
 act-shows p me n Event.WakeAsk h = wake-ask-shows (p .times) n (n .state) (n .caller) (n .delay) h
 act-shows p me n (Event.Permission permitted) h = permission-shows (p .times) permitted n h
-act-shows p me n Event.SleepMessage h = in-normal (ErrorShows (p .times)) (n .state) n (silent (withDelay (Delay.On 0) n)) h h
+act-shows p me n Event.SleepMessage h = in-normal (λ (r : Reply). ErrorShows (p .times) (r .node)) n (λ number. h) (n .state) (silent (withDelay (Delay.On 0) n)) h
 act-shows p me n (Event.Request reqid) h = request-keeps (ErrorShows (p .times)) n (λ wake heard counts. h) me (findRow p reqid)
 act-shows p me n (Event.SendAsk reqid) h = send-ask-keeps (ErrorShows (p .times)) n (λ wake heard counts. h) me (isPolled p me) (findRow p reqid)

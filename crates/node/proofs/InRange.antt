@@ -28,8 +28,9 @@ use Rattle.node.specs.Changes.{asleep, powerOn, toStandby, withPermissio
 use Rattle.node.specs.Range.{delayRight, standbyRight, inRange}
 use Rattle.node.specs.Ticks.{quietTick, awakeTick, normalBy, callerTick, listenerTick, standbyTick, tickBy, tickStep}
 use Rattle.node.specs.Waking.{pulseBy, wakeAskBy, permissionStep}
-use Rattle.node.specs.Sending.{inNormal, sleepMessageStep, sendStep, requestRow, sendOwn, sendAskRow}
+use Rattle.node.specs.Sending.{sleepMessageStep, sendStep, requestStep, sendAskStep}
 use Rattle.node.specs.Step.{eventRight, act, nodeStep}
+use Rattle.node.proofs.Cases.{any-row, in-normal, request-any, send-ask-any}
 
 -- what a state in range keeps
 pub record Fits (t : Times) (n : Node) : Type 0 where
@@ -150,15 +151,9 @@ module _ (t : Times) where
         set-fits : Fits t (withPermission permitted n)
         set-fits = record { quiet = f .quiet; delay = f .delay; standby = f .standby; counts = f .counts }
 
-    -- what needs Normal is refused elsewhere
-    in-normal-fits : (s : State) (n : Node) (r : Reply) → Fits t n → Fits t (r .node) → Fits t (inNormal s n r .node)
-    in-normal-fits State.Normal n r f g = g
-    in-normal-fits State.Standby n r f g = f
-    in-normal-fits State.Sleep n r f g = f
-
     sleep-message-fits : (n : Node) → Fits t n → Fits t (sleepMessageStep n .node)
     sleep-message-fits n f =
-        in-normal-fits (n .state) n (silent (withDelay (Delay.On 0) n)) f
+        in-normal (λ (r : Reply). Fits t (r .node)) n (λ number. f) (n .state) (silent (withDelay (Delay.On 0) n))
         (record { quiet = f .quiet; delay = lt-ltb 0 (t .sleep) (omega (arith, a .sleep .least)); standby = f .standby; counts = f .counts })
 
     heard-fits : (n : Node) → Fits t n → Fits t (withHeard n)
@@ -167,21 +162,14 @@ module _ (t : Times) where
     send-fits : (reqid : ℕ) (n : Node) → Fits t n → Fits t (sendStep reqid n .node)
     send-fits reqid n f = record { quiet = f .quiet; delay = f .delay; standby = f .standby; counts = sent-counts (n .counts) reqid (f .counts) }
 
-    request-row-fits : (me : ℕ) (row : Lookup) (n : Node) → Fits t n → Fits t (requestRow me row n .node)
-    request-row-fits me Lookup.Missing n f = f
-    request-row-fits me (Lookup.Found row) n f =
-        by-test (λ (r : Reply). Fits t (r .node)) (eqb (row .publisher) me) (λ e. send-fits (row .reqid) (withHeard n) (heard-fits n f)) (λ e. heard-fits n f)
+    request-fits : (me : ℕ) (row : Lookup) (n : Node) → Fits t n → Fits t (requestStep me row n .node)
+    request-fits me row n f =
+        request-any (λ (r : Reply). Fits t (r .node)) n (λ number. f) me row (heard-fits n f)
+        (any-row (λ (r : Reply). Fits t (r .node)) me row (withHeard n) (λ reqid. send-fits reqid (withHeard n) (heard-fits n f)))
 
-    send-own-fits : (polled : Bool) (reqid : ℕ) (n : Node) → Fits t n → Fits t (sendOwn polled reqid n .node)
-    send-own-fits polled reqid n f =
-        by-test (λ (r : Reply). Fits t (r .node)) polled
-        (λ p. by-test (λ (r : Reply). Fits t (r .node)) (n .heard) (λ h. send-fits reqid n f) (λ h. f))
-        (λ p. send-fits reqid n f)
-
-    send-ask-row-fits : (me : ℕ) (polled : Bool) (row : Lookup) (n : Node) → Fits t n → Fits t (sendAskRow me polled row n .node)
-    send-ask-row-fits me polled Lookup.Missing n f = f
-    send-ask-row-fits me polled (Lookup.Found row) n f =
-        by-test (λ (r : Reply). Fits t (r .node)) (eqb (row .publisher) me) (λ e. send-own-fits polled (row .reqid) n f) (λ e. f)
+    send-ask-fits : (me : ℕ) (polled : Bool) (row : Lookup) (n : Node) → Fits t n → Fits t (sendAskStep me polled row n .node)
+    send-ask-fits me polled row n f =
+        send-ask-any (λ (r : Reply). Fits t (r .node)) n (λ number. f) me polled row (any-row (λ (r : Reply). Fits t (r .node)) me row n (λ reqid. send-fits reqid n f))
 
 -- what an event does keeps the range
 pub act-fits : (p : Plan) → planRefusal p ≡ 0 → (me : ℕ) (n : Node) (e : Event) → Fits (p .times) n → Fits (p .times) (act p me n e .node)
@@ -197,11 +185,8 @@ act-fits p ok me n e f = go e
         wake-ask-fits (p .times) a (n .state) (n .caller) (withWake n) (record { quiet = f .quiet; delay = f .delay; standby = f .standby; counts = f .counts })
     go (Event.Permission permitted) = permission-fits (p .times) a permitted n f
     go Event.SleepMessage = sleep-message-fits (p .times) a n f
-    go (Event.Request reqid) =
-        in-normal-fits (p .times) a (n .state) n (requestRow me (findRow p reqid) n) f (request-row-fits (p .times) a me (findRow p reqid) n f)
-    go (Event.SendAsk reqid) =
-        in-normal-fits (p .times) a (n .state) n (sendAskRow me (isPolled p me) (findRow p reqid) n) f
-        (send-ask-row-fits (p .times) a me (isPolled p me) (findRow p reqid) n f)
+    go (Event.Request reqid) = request-fits (p .times) a me (findRow p reqid) n f
+    go (Event.SendAsk reqid) = send-ask-fits (p .times) a me (isPolled p me) (findRow p reqid) n f
 
 -- and so does every step
 pub range-kept : (p : Plan) → planRefusal p ≡ 0 → (me : ℕ) (n : Node) (e : Event) → inRange (p .times) n ≡ true → inRange (p .times) (nodeStep p me n e .node) ≡ true

@@ -13,6 +13,7 @@ use Rattle.plan.specs.Find.{findRow}
 use Rattle.node.specs.declared.Delay.{Delay}
 use Rattle.node.specs.declared.Node.{Node}
 use Rattle.node.specs.declared.Event.{Event}
+use Rattle.node.specs.declared.Reply.{Reply}
 use Rattle.node.specs.Changes.{powerOn, silent, withDelay}
 use Rattle.node.specs.Step.{act}
 use Rattle.node.proofs.Cases.{in-normal, request-keeps, send-ask-keeps}
@@ -84,7 +85,7 @@ module _ (p : Plan) (me : ℕ) (n : Node) where
   act-dark Event.Pulse off l o = off-pulse (p .times) off n l o
   act-dark Event.WakeAsk off l o = off-none (p .times) (act p me n Event.WakeAsk .node)
   act-dark (Event.Permission permitted) off l o = off-permission (p .times) off permitted n o
-  act-dark Event.SleepMessage off l o = in-normal (ClockOff (p .times) off) (n .state) n (silent (withDelay (Delay.On 0) n)) o o
+  act-dark Event.SleepMessage off l o = in-normal (λ (r : Reply). ClockOff (p .times) off (r .node)) n (λ number. o) (n .state) (silent (withDelay (Delay.On 0) n)) o
   act-dark (Event.Request reqid) off l o = request-keeps (ClockOff (p .times) off) n (λ wake heard counts. o) me (findRow p reqid)
   act-dark (Event.SendAsk reqid) off l o = send-ask-keeps (ClockOff (p .times) off) n (λ wake heard counts. o) me (isPolled p me) (findRow p reqid)
 

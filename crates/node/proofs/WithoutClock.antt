@@ -11,7 +11,6 @@ use Rattle.plan.specs.declared.Times.{Times}
 use Rattle.node.specs.declared.Delay.{Delay}
 use Rattle.node.specs.declared.Node.{Node}
 use Rattle.node.specs.declared.Reply.{Reply}
-use Rattle.node.specs.Changes.{silent, withDelay}
 use Rattle.node.specs.Range.{standbyRight}
 use Rattle.node.specs.Ticks.{quietTick, tickStep}
 use Rattle.node.specs.Waking.{pulseStep, permissionStep}
