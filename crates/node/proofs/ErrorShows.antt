@@ -8,18 +8,12 @@ use borrow.Author.Tests.{ltb-true}
 use Rattle.folds.proofs.Choices.{by-test, no-way}
 use Rattle.machine.specs.declared.State.{State}
 use Rattle.plan.specs.declared.Times.{Times}
-use Rattle.plan.specs.declared.Plan.{Plan}
-use Rattle.plan.specs.Answers.{isPolled}
-use Rattle.plan.specs.Find.{findRow}
 use Rattle.node.specs.declared.Delay.{Delay}
 use Rattle.node.specs.declared.Node.{Node}
-use Rattle.node.specs.declared.Event.{Event}
 use Rattle.node.specs.declared.Reply.{Reply}
-use Rattle.node.specs.Changes.{silent, withDelay}
 use Rattle.node.specs.Ticks.{awakeTick, tickStep}
 use Rattle.node.specs.Waking.{pulseStep, wakeAskStep, permissionStep}
-use Rattle.node.specs.Step.{act}
-use Rattle.node.proofs.Cases.{split, in-normal, request-keeps, send-ask-keeps}
+use Rattle.node.proofs.Cases.{split}
 
 -- in Normal, and for a caller at the end of its wait
 abbrev pub mayShow : Times → State → Bool → ℕ → Type 0
@@ -44,7 +38,7 @@ module _ (t : Times) where
   normal-shows false n caller delay =
       by-test Kept (ltb (n .quiet + 1) (t .quiet)) (λ l e. tt) (λ l. by-test Kept (n .permission) (λ y e. no-way e) (λ y e. tt))
 
-  tick-shows : (clock : Bool) (n : Node) (state : State) (caller : Bool) (delay : Delay)
+  pub tick-shows : (clock : Bool) (n : Node) (state : State) (caller : Bool) (delay : Delay)
       → ErrorShows t (split n state caller delay) → Kept (tickStep t clock (split n state caller delay))
   tick-shows clock n State.Normal caller Delay.Off h = normal-shows clock n caller Delay.Off
   tick-shows clock n State.Normal caller (Delay.On ticks) h =
@@ -61,27 +55,16 @@ module _ (t : Times) where
   tick-shows true n State.Sleep caller delay h = h
   tick-shows false n State.Sleep caller delay h = h
 
-  pulse-shows : (n : Node) (state : State) (caller : Bool) (delay : Delay)
-      → ErrorShows t (split n state caller delay) → Kept (pulseStep (split n state caller delay))
-  pulse-shows n State.Normal caller delay h = h
-  pulse-shows n State.Standby caller delay h = h
-  pulse-shows n State.Sleep caller delay h = h
+  pub pulse-shows : (n : Node) (state : State) → ErrorShows t (split n state (n .caller) (n .delay)) → Kept (pulseStep (split n state (n .caller) (n .delay)))
+  pulse-shows n State.Normal h = h
+  pulse-shows n State.Standby h = h
+  pulse-shows n State.Sleep h = h
 
-  wake-ask-shows : (n : Node) (state : State) (caller : Bool) (delay : Delay)
-      → ErrorShows t (split n state caller delay) → Kept (wakeAskStep (split n state caller delay))
-  wake-ask-shows n State.Normal caller delay h = h
-  wake-ask-shows n State.Standby true delay h = h
-  wake-ask-shows n State.Standby false delay h = λ e. absurd (h e)
-  wake-ask-shows n State.Sleep caller delay h = λ e. absurd (h e)
+  pub wake-ask-shows : (n : Node) (state : State) (caller : Bool) → ErrorShows t (split n state caller (n .delay)) → Kept (wakeAskStep (split n state caller (n .delay)))
+  wake-ask-shows n State.Normal caller h = h
+  wake-ask-shows n State.Standby true h = h
+  wake-ask-shows n State.Standby false h = λ e. absurd (h e)
+  wake-ask-shows n State.Sleep caller h = λ e. absurd (h e)
 
-  permission-shows : (permitted : Bool) (n : Node) → ErrorShows t n → Kept (permissionStep permitted n)
+  pub permission-shows : (permitted : Bool) (n : Node) → ErrorShows t n → Kept (permissionStep permitted n)
   permission-shows permitted n h = by-test Kept permitted (λ y. by-test Kept (n .error) (λ x e. no-way e) (λ x. h)) (λ y. h)
-
-pub act-shows : (p : Plan) (me : ℕ) (n : Node) (e : Event) → ErrorShows (p .times) n → ErrorShows (p .times) (act p me n e .node)
-act-shows p me n (Event.Tick clock) h = tick-shows (p .times) clock n (n .state) (n .caller) (n .delay) h
-act-shows p me n Event.Pulse h = pulse-shows (p .times) n (n .state) (n .caller) (n .delay) h
-act-shows p me n Event.WakeAsk h = wake-ask-shows (p .times) n (n .state) (n .caller) (n .delay) h
-act-shows p me n (Event.Permission permitted) h = permission-shows (p .times) permitted n h
-act-shows p me n Event.SleepMessage h = in-normal (λ (r : Reply). ErrorShows (p .times) (r .node)) n (λ number. h) (n .state) (silent (withDelay (Delay.On 0) n)) h
-act-shows p me n (Event.Request reqid) h = request-keeps (ErrorShows (p .times)) n (λ wake heard counts. h) me (findRow p reqid)
-act-shows p me n (Event.SendAsk reqid) h = send-ask-keeps (ErrorShows (p .times)) n (λ wake heard counts. h) me (isPolled p me) (findRow p reqid)

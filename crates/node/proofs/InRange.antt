@@ -27,7 +27,7 @@ use Rattle.node.specs.declared.Reply.{Reply}
 use Rattle.node.specs.Changes.{asleep, powerOn, toStandby, withPermission, withWake, withHeard, withDelay, withStandby, nextCount, silent}
 use Rattle.node.specs.Range.{delayRight, standbyRight, inRange}
 use Rattle.node.specs.Ticks.{quietTick, awakeTick, normalBy, callerTick, listenerTick, standbyTick, tickBy, tickStep}
-use Rattle.node.specs.Waking.{pulseBy, wakeAskBy, permissionStep}
+use Rattle.node.specs.Waking.{pulseBy, wakeAskBy, wakeAskStep, permissionStep}
 use Rattle.node.specs.Sending.{sleepMessageStep, sendStep, requestStep, sendAskStep}
 use Rattle.node.specs.Step.{eventRight, act, nodeStep}
 use Rattle.node.proofs.Cases.{any-row, in-normal, request-any, send-ask-any}
@@ -120,7 +120,7 @@ module _ (t : Times) where
       standby-tick-fits : Fits t (standbyTick t n .node)
       standby-tick-fits = by-test (λ (r : Reply). Fits t (r .node)) (n .caller) caller-fits listener-fits
 
-    tick-fits : (clock : Bool) (n : Node) → Fits t n → Fits t (tickStep t clock n .node)
+    pub tick-fits : (clock : Bool) (n : Node) → Fits t n → Fits t (tickStep t clock n .node)
     tick-fits clock n f = go (n .state) refl
       where
         go : (s : State) → n .state ≡ s → Fits t (tickBy t clock s n .node)
@@ -131,18 +131,21 @@ module _ (t : Times) where
             (λ k. standby-tick-fits n e f)
         go State.Sleep e = by-test (λ (r : Reply). Fits t (r .node)) clock (λ k. standby-fits n false f) (λ k. f)
 
-    pulse-fits : (s : State) (n : Node) → Fits t n → Fits t (pulseBy s n .node)
+    pub pulse-fits : (s : State) (n : Node) → Fits t n → Fits t (pulseBy s n .node)
     pulse-fits State.Normal n f = f
     pulse-fits State.Standby n f = f
     pulse-fits State.Sleep n f = standby-fits n false f
 
-    wake-ask-fits : (s : State) (caller : Bool) (n : Node) → Fits t n → Fits t (wakeAskBy s caller n .node)
-    wake-ask-fits State.Normal caller n f = f
-    wake-ask-fits State.Standby true n f = f
-    wake-ask-fits State.Standby false n f = standby-fits n true f
-    wake-ask-fits State.Sleep caller n f = standby-fits n true f
+    pub wake-ask-fits : (n : Node) → Fits t n → Fits t (wakeAskStep n .node)
+    wake-ask-fits n f = go (n .state) (n .caller) (withWake n) (record { quiet = f .quiet; delay = f .delay; standby = f .standby; counts = f .counts })
+      where
+        go : (s : State) (caller : Bool) (n : Node) → Fits t n → Fits t (wakeAskBy s caller n .node)
+        go State.Normal caller n f = f
+        go State.Standby true n f = f
+        go State.Standby false n f = standby-fits n true f
+        go State.Sleep caller n f = standby-fits n true f
 
-    permission-fits : (permitted : Bool) (n : Node) → Fits t n → Fits t (permissionStep permitted n .node)
+    pub permission-fits : (permitted : Bool) (n : Node) → Fits t n → Fits t (permissionStep permitted n .node)
     permission-fits permitted n f =
         by-test (λ (r : Reply). Fits t (r .node)) permitted
         (λ y. by-test (λ (r : Reply). Fits t (r .node)) (n .error) (λ e. asleep-fits permitted) (λ e. set-fits))
@@ -151,7 +154,7 @@ module _ (t : Times) where
         set-fits : Fits t (withPermission permitted n)
         set-fits = record { quiet = f .quiet; delay = f .delay; standby = f .standby; counts = f .counts }
 
-    sleep-message-fits : (n : Node) → Fits t n → Fits t (sleepMessageStep n .node)
+    pub sleep-message-fits : (n : Node) → Fits t n → Fits t (sleepMessageStep n .node)
     sleep-message-fits n f =
         in-normal (λ (r : Reply). Fits t (r .node)) n (λ number. f) (n .state) (silent (withDelay (Delay.On 0) n))
         (record { quiet = f .quiet; delay = lt-ltb 0 (t .sleep) (omega (arith, a .sleep .least)); standby = f .standby; counts = f .counts })
@@ -162,12 +165,12 @@ module _ (t : Times) where
     send-fits : (reqid : ℕ) (n : Node) → Fits t n → Fits t (sendStep reqid n .node)
     send-fits reqid n f = record { quiet = f .quiet; delay = f .delay; standby = f .standby; counts = sent-counts (n .counts) reqid (f .counts) }
 
-    request-fits : (me : ℕ) (row : Lookup) (n : Node) → Fits t n → Fits t (requestStep me row n .node)
+    pub request-fits : (me : ℕ) (row : Lookup) (n : Node) → Fits t n → Fits t (requestStep me row n .node)
     request-fits me row n f =
         request-any (λ (r : Reply). Fits t (r .node)) n (λ number. f) me row (heard-fits n f)
         (any-row (λ (r : Reply). Fits t (r .node)) me row (withHeard n) (λ reqid. send-fits reqid (withHeard n) (heard-fits n f)))
 
-    send-ask-fits : (me : ℕ) (polled : Bool) (row : Lookup) (n : Node) → Fits t n → Fits t (sendAskStep me polled row n .node)
+    pub send-ask-fits : (me : ℕ) (polled : Bool) (row : Lookup) (n : Node) → Fits t n → Fits t (sendAskStep me polled row n .node)
     send-ask-fits me polled row n f =
         send-ask-any (λ (r : Reply). Fits t (r .node)) n (λ number. f) me polled row (any-row (λ (r : Reply). Fits t (r .node)) me row n (λ reqid. send-fits reqid n f))
 
@@ -181,8 +184,7 @@ act-fits p ok me n e f = go e
     go : (e : Event) → Fits (p .times) (act p me n e .node)
     go (Event.Tick clock) = tick-fits (p .times) a clock n f
     go Event.Pulse = pulse-fits (p .times) a (n .state) n f
-    go Event.WakeAsk =
-        wake-ask-fits (p .times) a (n .state) (n .caller) (withWake n) (record { quiet = f .quiet; delay = f .delay; standby = f .standby; counts = f .counts })
+    go Event.WakeAsk = wake-ask-fits (p .times) a n f
     go (Event.Permission permitted) = permission-fits (p .times) a permitted n f
     go Event.SleepMessage = sleep-message-fits (p .times) a n f
     go (Event.Request reqid) = request-fits (p .times) a me (findRow p reqid) n f

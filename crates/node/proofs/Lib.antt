@@ -2,7 +2,6 @@ pub mod Cases
 pub mod Commands
 pub mod ErrorShows
 pub mod InRange
-pub mod Permissions
 pub mod Refusals
 pub mod Settling
 pub mod WithClock

@@ -1,105 +1,127 @@
--- A node in a run: what holds after the clock was on, or off, for a number of ticks, kept by each event.
+-- A node in a run: what each step keeps of its permission, and of the ticks that the clock was on or off.
 use Prim.Native.Nat.{ℕ, suc, _+_, _*_, _≤_}
-use mathlib.Core.Path.{_≡_}
-use mathlib.Core.Bool.{true, false}
+use mathlib.Core.Path.{_≡_, refl}
+use mathlib.Core.Bool.{Bool, true, false}
 use Rattle.folds.specs.Fold.{pick}
 use Rattle.folds.proofs.Choices.{no-way}
 use Rattle.machine.specs.declared.State.{State}
 use Rattle.plan.specs.declared.Times.{Times}
-use Rattle.plan.specs.declared.Plan.{Plan}
-use Rattle.plan.specs.Rules.{planRefusal}
-use Rattle.plan.specs.Answers.{isPolled}
-use Rattle.plan.specs.Find.{findRow}
+use Rattle.plan.specs.declared.Lookup.{Lookup}
+use Rattle.plan.proofs.Accepted.{TimesFit}
 use Rattle.node.specs.declared.Delay.{Delay}
 use Rattle.node.specs.declared.Node.{Node}
-use Rattle.node.specs.declared.Event.{Event}
 use Rattle.node.specs.declared.Reply.{Reply}
-use Rattle.node.specs.Changes.{powerOn, silent, withDelay}
-use Rattle.node.specs.Step.{act}
-use Rattle.node.proofs.Cases.{in-normal, request-keeps, send-ask-keeps}
-use Rattle.node.proofs.InRange.{Fits, asleep-fits, act-fits}
-use Rattle.node.proofs.ErrorShows.{ErrorShows, act-shows}
+use Rattle.node.specs.Changes.{powerOn, withWake, withDelay, silent}
+use Rattle.node.specs.Ticks.{tickStep}
+use Rattle.node.specs.Waking.{pulseStep, wakeAskStep, permissionStep}
+use Rattle.node.specs.Sending.{sleepMessageStep, requestStep, sendAskStep}
+use Rattle.node.proofs.Cases.{tick-any, pulse-any, wake-ask-any, permission-any, in-normal, request-keeps, send-ask-keeps}
+use Rattle.node.proofs.InRange.{Fits, asleep-fits, tick-fits, pulse-fits, wake-ask-fits, permission-fits, sleep-message-fits, request-fits, send-ask-fits}
+use Rattle.node.proofs.ErrorShows.{ErrorShows, tick-shows, pulse-shows, wake-ask-shows, permission-shows}
 use Rattle.node.proofs.WithClock.{ClockOn, on-none, on-tick, on-pulse, on-wake-ask, on-permission, on-long}
 use Rattle.node.proofs.WithoutClock.{ClockOff, off-none, off-tick, off-pulse, off-permission, off-long}
 
--- after so many ticks with the clock on (and no sleep message since the first), or off (and no ask to wake)
-pub record Settling (t : Times) (on off : ℕ) (n : Node) : Type 0 where
+-- the application's last word is `permitted`; the clock was on for `on` ticks with no sleep message since the first of them,
+-- and off for `off` ticks with no ask to wake since the first
+pub record InRun (t : Times) (permitted : Bool) (on off : ℕ) (n : Node) : Type 0 where
+  pub permission : n .permission ≡ permitted
   pub fits : Fits t n
   pub shows : ErrorShows t n
   pub lit : ClockOn t on n
   pub dark : ClockOff t off n
 
--- the ticks with the clock on, and off, after an event
-abbrev pub onAfter : Event → ℕ → ℕ
-onAfter (Event.Tick clock) k = pick clock (suc k) 0
-onAfter Event.Pulse k = k
-onAfter Event.WakeAsk k = k
-onAfter (Event.Permission permitted) k = k
-onAfter Event.SleepMessage k = 0
-onAfter (Event.Request reqid) k = k
-onAfter (Event.SendAsk reqid) k = k
+module _ (t : Times) where
+  pub run-power-on : InRun t false 0 0 powerOn
+  run-power-on = record { permission = refl; fits = asleep-fits t false; shows = λ e. no-way e; lit = on-none t powerOn; dark = off-none t powerOn }
 
-abbrev pub offAfter : Event → ℕ → ℕ
-offAfter (Event.Tick clock) k = pick clock 0 (suc k)
-offAfter Event.Pulse k = k
-offAfter Event.WakeAsk k = 0
-offAfter (Event.Permission permitted) k = k
-offAfter Event.SleepMessage k = k
-offAfter (Event.Request reqid) k = k
-offAfter (Event.SendAsk reqid) k = k
+  module _ (permitted : Bool) (on off : ℕ) (n : Node) (s : InRun t permitted on off n) where
+    -- 0 ticks say nothing: a sleep message that is refused, and another's ask to wake
+    pub run-on-ends : InRun t permitted 0 off n
+    run-on-ends = record { permission = s .permission; fits = s .fits; shows = s .shows; lit = on-none t n; dark = s .dark }
 
--- a pulse is heard in the first R ticks without clock
-abbrev pub inTime : Times → ℕ → Event → Type 0
-inTime t k (Event.Tick clock) = Unit {0}
-inTime t k Event.Pulse = k ≤ t .recovery
-inTime t k Event.WakeAsk = Unit {0}
-inTime t k (Event.Permission permitted) = Unit {0}
-inTime t k Event.SleepMessage = Unit {0}
-inTime t k (Event.Request reqid) = Unit {0}
-inTime t k (Event.SendAsk reqid) = Unit {0}
+    pub run-off-ends : InRun t permitted on 0 n
+    run-off-ends = record { permission = s .permission; fits = s .fits; shows = s .shows; lit = s .lit; dark = off-none t n }
 
-pub power-on-settling : (t : Times) → Settling t 0 0 powerOn
-power-on-settling t = record { fits = asleep-fits t false; shows = λ e. no-way e; lit = on-none t powerOn; dark = off-none t powerOn }
+    -- (c): after S + 2 ticks
+    pub run-on-long : t .sleep + 2 ≤ on → (n .state ≡ State.Normal) × (n .error ≡ false) × (n .delay ≡ Delay.Off)
+    run-on-long l = on-long t on n l (s .fits .delay) (s .lit)
 
--- a count that ends says nothing
-pub on-ends : (t : Times) (on off : ℕ) (n : Node) → Settling t on off n → Settling t 0 off n
-on-ends t on off n s = record { fits = s .fits; shows = s .shows; lit = on-none t n; dark = s .dark }
+    -- (b): after E, 2R and R + P ticks
+    pub run-off-long : 1 ≤ t .quiet → t .quiet ≤ off → 2 * t .recovery ≤ off → t .recovery + t .space ≤ off → n .error ≡ false → n .state ≡ State.Sleep
+    run-off-long one quiet recovery space = off-long t off n one quiet recovery space (s .fits .standby) (s .dark)
 
-pub off-ends : (t : Times) (on off : ℕ) (n : Node) → Settling t on off n → Settling t on 0 n
-off-ends t on off n s = record { fits = s .fits; shows = s .shows; lit = s .lit; dark = off-none t n }
+    module _ (a : TimesFit t) where
+      tick-lit : (clock : Bool) → ClockOn t (pick clock (suc on) 0) (tickStep t clock n .node)
+      tick-lit true = on-tick t on n (n .state) (n .delay) (s .fits .delay) (s .shows) (s .lit)
+      tick-lit false = on-none t (tickStep t false n .node)
 
-module _ (p : Plan) (me : ℕ) (n : Node) where
-  act-lit : (e : Event) (on off : ℕ) → Settling (p .times) on off n → ClockOn (p .times) (onAfter e on) (act p me n e .node)
-  act-lit (Event.Tick true) on off s = on-tick (p .times) on n (s .fits .delay) (s .shows) (s .lit)
-  act-lit (Event.Tick false) on off s = on-none (p .times) (act p me n (Event.Tick false) .node)
-  act-lit Event.Pulse on off s = on-pulse (p .times) on n (s .lit)
-  act-lit Event.WakeAsk on off s = on-wake-ask (p .times) on n (s .lit)
-  act-lit (Event.Permission permitted) on off s = on-permission (p .times) on permitted n (s .lit)
-  act-lit Event.SleepMessage on off s = on-none (p .times) (act p me n Event.SleepMessage .node)
-  act-lit (Event.Request reqid) on off s = request-keeps (ClockOn (p .times) on) n (λ wake heard counts. s .lit) me (findRow p reqid)
-  act-lit (Event.SendAsk reqid) on off s = send-ask-keeps (ClockOn (p .times) on) n (λ wake heard counts. s .lit) me (isPolled p me) (findRow p reqid)
+      tick-dark : (clock : Bool) → ClockOff t (pick clock 0 (suc off)) (tickStep t clock n .node)
+      tick-dark true = off-none t (tickStep t true n .node)
+      tick-dark false = off-tick t off n (n .state) (n .caller) (n .delay) (s .dark)
 
-  act-dark : (e : Event) (off : ℕ) → inTime (p .times) off e → ClockOff (p .times) off n → ClockOff (p .times) (offAfter e off) (act p me n e .node)
-  act-dark (Event.Tick true) off l o = off-none (p .times) (act p me n (Event.Tick true) .node)
-  act-dark (Event.Tick false) off l o = off-tick (p .times) off n o
-  act-dark Event.Pulse off l o = off-pulse (p .times) off n l o
-  act-dark Event.WakeAsk off l o = off-none (p .times) (act p me n Event.WakeAsk .node)
-  act-dark (Event.Permission permitted) off l o = off-permission (p .times) off permitted n o
-  act-dark Event.SleepMessage off l o = in-normal (λ (r : Reply). ClockOff (p .times) off (r .node)) n (λ number. o) (n .state) (silent (withDelay (Delay.On 0) n)) o
-  act-dark (Event.Request reqid) off l o = request-keeps (ClockOff (p .times) off) n (λ wake heard counts. o) me (findRow p reqid)
-  act-dark (Event.SendAsk reqid) off l o = send-ask-keeps (ClockOff (p .times) off) n (λ wake heard counts. o) me (isPolled p me) (findRow p reqid)
+      pub run-tick : (clock : Bool) → InRun t permitted (pick clock (suc on) 0) (pick clock 0 (suc off)) (tickStep t clock n .node)
+      run-tick clock =
+          record {
+            permission = tick-any (λ (r : Reply). r .node .permission ≡ permitted) permitted (λ m h. h) (λ m h. h) t clock (n .state) n (s .permission);
+            fits = tick-fits t a clock n (s .fits);
+            shows = tick-shows t clock n (n .state) (n .caller) (n .delay) (s .shows);
+            lit = tick-lit clock;
+            dark = tick-dark clock;
+          }
 
-  -- each event keeps it
-  pub act-settling : planRefusal p ≡ 0 → (e : Event) (on off : ℕ) → inTime (p .times) off e
-      → Settling (p .times) on off n → Settling (p .times) (onAfter e on) (offAfter e off) (act p me n e .node)
-  act-settling ok e on off l s =
-      record { fits = act-fits p ok me n e (s .fits); shows = act-shows p me n e (s .shows); lit = act-lit e on off s; dark = act-dark e off l (s .dark) }
+      pub run-pulse : off ≤ t .recovery → InRun t permitted on off (pulseStep n .node)
+      run-pulse l =
+          record {
+            permission = pulse-any (λ (r : Reply). r .node .permission ≡ permitted) permitted (λ m h. h) (n .state) n (s .permission);
+            fits = pulse-fits t a (n .state) n (s .fits);
+            shows = pulse-shows t n (n .state) (s .shows);
+            lit = on-pulse t on n (n .state) (s .lit);
+            dark = off-pulse t off n (n .state) l (s .dark);
+          }
 
--- (c): "on for S + 2 ticks", Normal without error
-pub settled-on : (t : Times) (on off : ℕ) (n : Node) → t .sleep + 2 ≤ on → Settling t on off n → (n .state ≡ State.Normal) × (n .error ≡ false) × (n .delay ≡ Delay.Off)
-settled-on t on off n l s = on-long t on n l (s .fits .delay) (s .lit)
+      pub run-wake-ask : InRun t permitted on 0 (wakeAskStep n .node)
+      run-wake-ask =
+          record {
+            permission =
+                wake-ask-any (λ (r : Reply). r .node .permission ≡ permitted) permitted (λ m h. h) (λ m h. h) (n .state) (n .caller) (withWake n) (s .permission);
+            fits = wake-ask-fits t a n (s .fits);
+            shows = wake-ask-shows t n (n .state) (n .caller) (s .shows);
+            lit = on-wake-ask t on n (n .state) (n .caller) (s .lit);
+            dark = off-none t (wakeAskStep n .node);
+          }
 
--- (b): off for E, 2R and R + P ticks, asleep or in error
-pub settled-off : (t : Times) (on off : ℕ) (n : Node) → 1 ≤ t .quiet → t .quiet ≤ off → 2 * t .recovery ≤ off → t .recovery + t .space ≤ off
-    → Settling t on off n → n .error ≡ false → n .state ≡ State.Sleep
-settled-off t on off n one quiet recovery space s = off-long t off n one quiet recovery space (s .fits .standby) (s .dark)
+      pub run-permission : (word : Bool) → InRun t word on off (permissionStep word n .node)
+      run-permission word =
+          record {
+            permission = permission-any (λ (r : Reply). r .node .permission ≡ word) word (λ m h. h) n;
+            fits = permission-fits t a word n (s .fits);
+            shows = permission-shows t word n (s .shows);
+            lit = on-permission t on word n (s .lit);
+            dark = off-permission t off word n (s .dark);
+          }
+
+      -- all but the range, which alone reads the counts
+      abbrev Rest : ℕ → Node → Type 0
+      Rest k m = (m .permission ≡ permitted) × ErrorShows t m × ClockOn t k m × ClockOff t off m
+
+      whole : (k : ℕ) (m : Node) → Fits t m → Rest k m → InRun t permitted k off m
+      whole k m f r = record { permission = r .0; fits = f; shows = r .1; lit = r .2; dark = r .3 }
+
+      pub run-sleep-message : InRun t permitted 0 off (sleepMessageStep n .node)
+      run-sleep-message =
+          whole 0 (sleepMessageStep n .node) (sleep-message-fits t a n (s .fits))
+          (in-normal (λ (r : Reply). Rest 0 (r .node)) n (λ number. (s .permission, s .shows, on-none t n, s .dark)) (n .state) (silent started)
+          (s .permission, s .shows, on-none t started, s .dark))
+        where
+          started : Node
+          started = withDelay (Delay.On 0) n
+
+      pub run-request : (me : ℕ) (row : Lookup) → InRun t permitted on off (requestStep me row n .node)
+      run-request me row =
+          whole on (requestStep me row n .node) (request-fits t a me row n (s .fits))
+          (request-keeps (Rest on) n (λ wake heard counts. (s .permission, s .shows, s .lit, s .dark)) me row)
+
+      pub run-send-ask : (me : ℕ) (polled : Bool) (row : Lookup) → InRun t permitted on off (sendAskStep me polled row n .node)
+      run-send-ask me polled row =
+          whole on (sendAskStep me polled row n .node) (send-ask-fits t a me polled row n (s .fits))
+          (send-ask-keeps (Rest on) n (λ wake heard counts. (s .permission, s .shows, s .lit, s .dark)) me polled row)

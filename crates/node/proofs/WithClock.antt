@@ -17,7 +17,7 @@ use Rattle.node.specs.Waking.{pulseStep, wakeAskStep, permissionStep}
 use Rattle.node.proofs.Cases.{split}
 use Rattle.node.proofs.ErrorShows.{ErrorShows, unshown}
 
--- how long the clock may have been on: each line is the time left to Normal without delay, taken from S + 2
+-- for how many ticks the clock can have been on: a delay runs to S, then two ticks lead from Sleep to Normal
 abbrev pub onAt : Times → ℕ → State → Delay → Type 0
 onAt t k State.Normal Delay.Off = Unit {0}
 onAt t k State.Normal (Delay.On ticks) = k ≤ ticks
@@ -42,35 +42,26 @@ module _ (t : Times) where
     abbrev Kept : Reply → Type 0
     Kept r = ClockOn t k (r .node)
 
-    on-tick′ : (n : Node) (state : State) (delay : Delay) → delayRight (t .sleep) delay ≡ true → ErrorShows t (split n state (n .caller) delay)
+    pub on-tick : (n : Node) (state : State) (delay : Delay) → delayRight (t .sleep) delay ≡ true → ErrorShows t (split n state (n .caller) delay)
         → ClockOn t k (split n state (n .caller) delay) → ClockOn t (suc k) (tickStep t true (split n state (n .caller) delay) .node)
-    on-tick′ n State.Normal Delay.Off d h o = (λ l. refl, tt)
-    on-tick′ n State.Normal (Delay.On ticks) d h o =
+    on-tick n State.Normal Delay.Off d h o = (λ l. refl, tt)
+    on-tick n State.Normal (Delay.On ticks) d h o =
         by-test (λ (r : Reply). ClockOn t (suc k) (r .node)) (ltb (ticks + 1) (t .sleep))
         (λ l. (λ l. refl, omega arith))
         (λ l. (λ l. refl, omega (arith, ltb-true ticks (t .sleep) d)))
-    on-tick′ n State.Standby delay d h o = (λ l. refl, tt)
-    on-tick′ n State.Sleep delay d h o = (λ l. unshown (n .error) h, omega arith)
+    on-tick n State.Standby delay d h o = (λ l. refl, tt)
+    on-tick n State.Sleep delay d h o = (λ l. unshown (n .error) h, omega arith)
 
-    on-pulse′ : (n : Node) (state : State) → ClockOn t k (split n state (n .caller) (n .delay)) → Kept (pulseStep (split n state (n .caller) (n .delay)))
-    on-pulse′ n State.Normal o = o
-    on-pulse′ n State.Standby o = o
-    on-pulse′ n State.Sleep o = (o .0, omega arith)
+    pub on-pulse : (n : Node) (state : State) → ClockOn t k (split n state (n .caller) (n .delay)) → Kept (pulseStep (split n state (n .caller) (n .delay)))
+    on-pulse n State.Normal o = o
+    on-pulse n State.Standby o = o
+    on-pulse n State.Sleep o = (o .0, omega arith)
 
-    on-wake-ask′ : (n : Node) (state : State) (caller : Bool) → ClockOn t k (split n state caller (n .delay)) → Kept (wakeAskStep (split n state caller (n .delay)))
-    on-wake-ask′ n State.Normal caller o = o
-    on-wake-ask′ n State.Standby true o = o
-    on-wake-ask′ n State.Standby false o = o
-    on-wake-ask′ n State.Sleep caller o = (o .0, omega arith)
-
-    pub on-tick : (n : Node) → delayRight (t .sleep) (n .delay) ≡ true → ErrorShows t n → ClockOn t k n → ClockOn t (suc k) (tickStep t true n .node)
-    on-tick n = on-tick′ n (n .state) (n .delay)
-
-    pub on-pulse : (n : Node) → ClockOn t k n → ClockOn t k (pulseStep n .node)
-    on-pulse n = on-pulse′ n (n .state)
-
-    pub on-wake-ask : (n : Node) → ClockOn t k n → ClockOn t k (wakeAskStep n .node)
-    on-wake-ask n = on-wake-ask′ n (n .state) (n .caller)
+    pub on-wake-ask : (n : Node) (state : State) (caller : Bool) → ClockOn t k (split n state caller (n .delay)) → Kept (wakeAskStep (split n state caller (n .delay)))
+    on-wake-ask n State.Normal caller o = o
+    on-wake-ask n State.Standby true o = o
+    on-wake-ask n State.Standby false o = o
+    on-wake-ask n State.Sleep caller o = (o .0, omega arith)
 
     -- no error shows, so a yes puts no node to sleep
     pub on-permission : (permitted : Bool) (n : Node) → ClockOn t k n → ClockOn t k (permissionStep permitted n .node)

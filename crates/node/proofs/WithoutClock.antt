@@ -16,7 +16,7 @@ use Rattle.node.specs.Ticks.{quietTick, tickStep}
 use Rattle.node.specs.Waking.{pulseStep, permissionStep}
 use Rattle.node.proofs.Cases.{split}
 
--- how long the clock may have been off: a node's own count tells, and a listener was woken by a pulse of the first R ticks
+-- for how many ticks the clock can have been off: the node's count went with them, and what woke a listener came in the first R
 abbrev pub offAt : Times → ℕ → State → Bool → Bool → ℕ → ℕ → Type 0
 offAt t k State.Normal caller error quiet standby = error ≡ false → (k ≤ quiet) × (1 ≤ k → quiet < t .quiet)
 offAt t k State.Standby true error quiet standby = error ≡ false → (k ≤ standby) × (1 ≤ k → standby < 2 * t .recovery)
@@ -47,33 +47,27 @@ module _ (t : Times) where
         (λ l e. let g = o e .0 in (omega arith, λ m. ltb-true (n .quiet + 1) (t .quiet) l))
         (λ l. by-test Later (n .permission) (λ y. tt) (λ y e. no-way (sym e)))
 
-    off-tick′ : (n : Node) (state : State) (caller : Bool) (delay : Delay)
+    pub off-tick : (n : Node) (state : State) (caller : Bool) (delay : Delay)
         → ClockOff t k (split n state caller delay) → Later (tickStep t false (split n state caller delay))
-    off-tick′ n State.Normal caller Delay.Off o = quiet-off n caller Delay.Off o
-    off-tick′ n State.Normal caller (Delay.On ticks) o =
+    off-tick n State.Normal caller Delay.Off o = quiet-off n caller Delay.Off o
+    off-tick n State.Normal caller (Delay.On ticks) o =
         by-test Later (ltb (ticks + 1) (t .sleep)) (λ l. quiet-off n caller (Delay.On (ticks + 1)) o) (λ l. tt)
-    off-tick′ n State.Standby true delay o =
+    off-tick n State.Standby true delay o =
         by-test Later (ltb (n .standby + 1) (2 * t .recovery))
         (λ l. by-test Later (eqb (n .standby + 1) (t .recovery)) (λ q. up l) (λ q. up l))
         (λ l. by-test Later (n .permission) (λ y. tt) (λ y e. no-way (sym e)))
       where
         up : ltb (n .standby + 1) (2 * t .recovery) ≡ true → n .error ≡ false → (suc k ≤ n .standby + 1) × (1 ≤ suc k → n .standby + 1 < 2 * t .recovery)
         up l e = let g = o e .0 in (omega arith, λ m. ltb-true (n .standby + 1) (2 * t .recovery) l)
-    off-tick′ n State.Standby false delay o = by-test Later (ltb (n .standby + 1) (t .space)) (λ l. omega arith) (λ l. tt)
-    off-tick′ n State.Sleep caller delay o = tt
-
-    off-pulse′ : (n : Node) (state : State) → k ≤ t .recovery → ClockOff t k (split n state (n .caller) (n .delay))
-        → ClockOff t k (pulseStep (split n state (n .caller) (n .delay)) .node)
-    off-pulse′ n State.Normal l o = o
-    off-pulse′ n State.Standby l o = o
-    off-pulse′ n State.Sleep l o = omega arith
-
-    pub off-tick : (n : Node) → ClockOff t k n → ClockOff t (suc k) (tickStep t false n .node)
-    off-tick n = off-tick′ n (n .state) (n .caller) (n .delay)
+    off-tick n State.Standby false delay o = by-test Later (ltb (n .standby + 1) (t .space)) (λ l. omega arith) (λ l. tt)
+    off-tick n State.Sleep caller delay o = tt
 
     -- a pulse that is heard came in the first R ticks
-    pub off-pulse : (n : Node) → k ≤ t .recovery → ClockOff t k n → ClockOff t k (pulseStep n .node)
-    off-pulse n = off-pulse′ n (n .state)
+    pub off-pulse : (n : Node) (state : State) → k ≤ t .recovery → ClockOff t k (split n state (n .caller) (n .delay))
+        → ClockOff t k (pulseStep (split n state (n .caller) (n .delay)) .node)
+    off-pulse n State.Normal l o = o
+    off-pulse n State.Standby l o = o
+    off-pulse n State.Sleep l o = omega arith
 
     pub off-permission : (permitted : Bool) (n : Node) → ClockOff t k n → ClockOff t k (permissionStep permitted n .node)
     off-permission permitted n o = by-test Kept permitted (λ y. by-test Kept (n .error) (λ x. tt) (λ x. o)) (λ y. o)
