@@ -5,7 +5,7 @@ use lib.ListN.{length, getD, drop}
 use lib.Dec.{ltb}
 use Rattle.folds.specs.Fold.{pick, tab}
 use Rattle.plan.specs.declared.Plan.{Plan}
-use Rattle.writer.specs.Write.{twoBytes}
+use Rattle.blocks.specs.Bytes.{twoBytes}
 use Rattle.writer.specs.Runs.{entryByteAt, rowByteFrom}
 
 -- the first 19 bytes: 0-1 revision, 2 N, 3-4 number of rows, 5-18 the times

@@ -1,0 +1,27 @@
+-- States and flags as bytes, each back into the other.
+use Prim.Native.Nat.{ℕ, zero, suc, _<_}
+use mathlib.Core.Path.{_≡_, refl}
+use mathlib.Core.Bool.{Bool, true, false}
+use native.Mathlib.Omega.{arith}
+use Rattle.machine.specs.declared.State.{State}
+use Rattle.machine.specs.Bytes.{stateByte, stateOf, flagByte, flagOf}
+
+pub state-back : (s : State) → stateOf (stateByte s) ≡ s
+state-back State.Normal = refl
+state-back State.Standby = refl
+state-back State.Sleep = refl
+
+pub state-byte-back : (b : ℕ) → b < 3 → stateByte (stateOf b) ≡ b
+state-byte-back zero h = refl
+state-byte-back (suc zero) h = refl
+state-byte-back (suc (suc zero)) h = refl
+state-byte-back (suc (suc (suc b))) h = absurd (omega arith)
+
+pub flag-back : (f : Bool) → flagOf (flagByte f) ≡ f
+flag-back true = refl
+flag-back false = refl
+
+pub flag-byte-back : (b : ℕ) → b < 2 → flagByte (flagOf b) ≡ b
+flag-byte-back zero h = refl
+flag-byte-back (suc zero) h = refl
+flag-byte-back (suc (suc b)) h = absurd (omega arith)
