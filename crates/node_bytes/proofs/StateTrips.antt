@@ -14,9 +14,8 @@ use Rattle.folds.proofs.Tables.{tab-of}
 use Rattle.blocks.specs.Bytes.{byte, number, highByte, lowByte, tableAt}
 use Rattle.blocks.proofs.Halves.{from-halves, high-at, low-at, long-high-at, long-low-at, from-quarters}
 use Rattle.blocks.proofs.Parts.{head-and-table}
-use Rattle.machine.specs.declared.State.{State}
-use Rattle.machine.specs.Bytes.{stateByte, stateOf, flagByte, flagOf}
-use Rattle.machine.proofs.ByteTrips.{state-back, state-byte-back, flag-back, flag-byte-back}
+use Rattle.machine.specs.Bytes.{stateOf, flagByte, flagOf}
+use Rattle.machine.proofs.ByteTrips.{state-back, state-byte-back, state-byte-low, flag-back, flag-byte-back, flag-byte-low}
 use Rattle.node.specs.declared.Delay.{Delay}
 use Rattle.node.specs.declared.Node.{Node}
 use Rattle.node_bytes.specs.States.{delayBytes, delayOf, nodeHead, nodeBytes, isNode, nodeFrom, nodeOf}
@@ -66,11 +65,7 @@ module _ (n : Node) (counts-long : length (n .counts) ≡ 128) where
       }
 
   flag-low : (o : ℕ) (f : Bool) → o < 15 → getD (headList n) o 0 ≡ flagByte f → ltb (byte (nodeBytes n) o) 2 ≡ true
-  flag-low o f h e = ap (λ b. ltb b 2) (listed-byte o h ∙ e) ∙ go f
-    where
-      go : (f : Bool) → ltb (flagByte f) 2 ≡ true
-      go true = refl
-      go false = refl
+  flag-low o f h e = ap (λ b. ltb b 2) (listed-byte o h ∙ e) ∙ flag-byte-low f
 
   delay-right : (ltb (byte (nodeBytes n) 8) 2 ≡ true) × ((eqb (byte (nodeBytes n) 8) 1 || eqb (number (nodeBytes n) 9) 0) ≡ true)
   delay-right = rw (listed-byte 8 (omega arith), listed-byte 9 (omega arith), listed-byte 10 (omega arith)) (go (n .delay))
@@ -78,14 +73,6 @@ module _ (n : Node) (counts-long : length (n .counts) ≡ 128) where
       go : (d : Delay) → (ltb (getD (delayBytes d) 0 0) 2 ≡ true) × ((eqb (getD (delayBytes d) 0 0) 1 || eqb (getD (delayBytes d) 1 0 * 256 + getD (delayBytes d) 2 0) 0) ≡ true)
       go Delay.Off = (refl, refl)
       go (Delay.On ticks) = (refl, refl)
-
-  state-low : ltb (byte (nodeBytes n) 0) 3 ≡ true
-  state-low = ap (λ b. ltb b 3) (listed-byte 0 (omega arith)) ∙ go (n .state)
-    where
-      go : (s : State) → ltb (stateByte s) 3 ≡ true
-      go State.Normal = refl
-      go State.Standby = refl
-      go State.Sleep = refl
 
   pub packed-long : length (nodeBytes n) ≡ 143
   unfolding nodeBytes
@@ -97,7 +84,7 @@ module _ (n : Node) (counts-long : length (n .counts) ≡ 128) where
   packed-is =
       rw (
         eq-eqb (length (nodeBytes n)) 143 packed-long,
-        state-low,
+        ap (λ b. ltb b 3) (listed-byte 0 (omega arith)) ∙ state-byte-low (n .state),
         flag-low 1 (n .permission) (omega arith) refl,
         flag-low 2 (n .error) (omega arith) refl,
         flag-low 3 (n .wake) (omega arith) refl,
