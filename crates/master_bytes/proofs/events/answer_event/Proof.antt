@@ -18,13 +18,13 @@ answer-from-requires c κs = search needs
 returns : tie.Need-returns
 returns c =
     rw (
-        c .answer-from .ensures,
-        ← c .before .before .byte-at3 .ensures,
-        ← c .before .before .before .before .byte-at2 .ensures,
-        ← c .before .before .before .before .before .before .byte-at .ensures,
-        eq-eqb _ _ (c .before .before .before .before .before .if1 .taken),
-        lt-ltb _ _ (c .before .before .before .if2 .taken),
-        lt-ltb _ _ (c .before .if3 .taken),
+      c .answer-from .ensures,
+      ← c .before .before .byte-at3 .ensures,
+      ← c .before .before .before .before .byte-at2 .ensures,
+      ← c .before .before .before .before .before .before .byte-at .ensures,
+      eq-eqb _ _ (c .before .before .before .before .before .if1 .taken),
+      lt-ltb _ _ (c .before .before .before .if2 .taken),
+      lt-ltb _ _ (c .before .if3 .taken),
     )
 
 no-event-requires : tie.Need-no-event-requires
@@ -33,13 +33,13 @@ no-event-requires c κs = search needs
 returns-2 : tie.Need-returns-2
 returns-2 c =
     rw (
-        c .no-event .ensures,
-        ← c .before .before .byte-at3 .ensures,
-        ← c .before .before .before .before .byte-at2 .ensures,
-        ← c .before .before .before .before .before .before .byte-at .ensures,
-        eq-eqb _ _ (c .before .before .before .before .before .if1 .taken),
-        lt-ltb _ _ (c .before .before .before .if2 .taken),
-        le-ltb _ _ (c .before .if3 .left),
+      c .no-event .ensures,
+      ← c .before .before .byte-at3 .ensures,
+      ← c .before .before .before .before .byte-at2 .ensures,
+      ← c .before .before .before .before .before .before .byte-at .ensures,
+      eq-eqb _ _ (c .before .before .before .before .before .if1 .taken),
+      lt-ltb _ _ (c .before .before .before .if2 .taken),
+      le-ltb _ _ (c .before .if3 .left),
     )
 
 no-event-requires-2 : tie.Need-no-event-requires-2
@@ -48,11 +48,11 @@ no-event-requires-2 c κs = search needs
 returns-3 : tie.Need-returns-3
 returns-3 c =
     rw (
-        c .no-event2 .ensures,
-        ← c .before .before .byte-at2 .ensures,
-        ← c .before .before .before .before .byte-at .ensures,
-        eq-eqb _ _ (c .before .before .before .if1 .taken),
-        le-ltb _ _ (c .before .if2 .left),
+      c .no-event2 .ensures,
+      ← c .before .before .byte-at2 .ensures,
+      ← c .before .before .before .before .byte-at .ensures,
+      eq-eqb _ _ (c .before .before .before .if1 .taken),
+      le-ltb _ _ (c .before .if2 .left),
     )
 
 no-event-requires-3 : tie.Need-no-event-requires-3
@@ -61,9 +61,9 @@ no-event-requires-3 c κs = search needs
 returns-4 : tie.Need-returns-4
 returns-4 c =
     rw (
-        c .no-event3 .ensures,
-        ← c .before .before .byte-at .ensures,
-        ne-eqb _ _ (c .before .if1 .left),
+      c .no-event3 .ensures,
+      ← c .before .before .byte-at .ensures,
+      ne-eqb _ _ (c .before .if1 .left),
     )
 
 pub answer-event-spec : {M : Type 1} → statement M

@@ -23,12 +23,12 @@ byte-at-requires-4 c κs = search needs
 returns : tie.Need-returns
 returns c =
     rw (
-        c .byte-at4 .ensures,
-        c .before .byte-at3 .ensures,
-        c .before .before .byte-at2 .ensures,
-        c .before .before .before .number-at2 .ensures,
-        c .before .before .before .before .number-at .ensures,
-        c .before .before .before .before .before .byte-at .ensures,
+      c .byte-at4 .ensures,
+      c .before .byte-at3 .ensures,
+      c .before .before .byte-at2 .ensures,
+      c .before .before .before .number-at2 .ensures,
+      c .before .before .before .before .number-at .ensures,
+      c .before .before .before .before .before .byte-at .ensures,
     )
 
 pub answer-from-spec : {M : Type 1} → statement M

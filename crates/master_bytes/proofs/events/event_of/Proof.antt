@@ -12,9 +12,9 @@ plain-event-requires c κs = search needs
 returns : tie.Need-returns
 returns c =
     rw (
-        c .plain-event .ensures,
-        c .before .byte-at .ensures,
-        eq-eqb _ _ (c .before .before .if1 .taken),
+      c .plain-event .ensures,
+      c .before .byte-at .ensures,
+      eq-eqb _ _ (c .before .before .if1 .taken),
     )
 
 byte-at-requires-2 : tie.Need-byte-at-requires-2
@@ -29,11 +29,11 @@ flagged-event-requires c κs = search needs
 returns-2 : tie.Need-returns-2
 returns-2 c =
     rw (
-        c .flagged-event .ensures,
-        c .before .byte-at3 .ensures,
-        c .before .before .byte-at2 .ensures,
-        ne-eqb _ _ (c .before .before .before .before .if1 .left),
-        eq-eqb _ _ (c .before .before .before .if2 .taken),
+      c .flagged-event .ensures,
+      c .before .byte-at3 .ensures,
+      c .before .before .byte-at2 .ensures,
+      ne-eqb _ _ (c .before .before .before .before .if1 .left),
+      eq-eqb _ _ (c .before .before .before .if2 .taken),
     )
 
 answer-event-requires : tie.Need-answer-event-requires
@@ -42,10 +42,10 @@ answer-event-requires c κs = search needs
 returns-3 : tie.Need-returns-3
 returns-3 c =
     rw (
-        c .answer-event .ensures,
-        ne-eqb _ _ (c .before .before .before .if1 .left),
-        ne-eqb _ _ (c .before .before .if2 .left),
-        eq-eqb _ _ (c .before .if3 .taken),
+      c .answer-event .ensures,
+      ne-eqb _ _ (c .before .before .before .if1 .left),
+      ne-eqb _ _ (c .before .before .if2 .left),
+      eq-eqb _ _ (c .before .if3 .taken),
     )
 
 no-event-requires : tie.Need-no-event-requires
@@ -54,10 +54,10 @@ no-event-requires c κs = search needs
 returns-4 : tie.Need-returns-4
 returns-4 c =
     rw (
-        c .no-event .ensures,
-        ne-eqb _ _ (c .before .before .before .if1 .left),
-        ne-eqb _ _ (c .before .before .if2 .left),
-        ne-eqb _ _ (c .before .if3 .left),
+      c .no-event .ensures,
+      ne-eqb _ _ (c .before .before .before .if1 .left),
+      ne-eqb _ _ (c .before .before .if2 .left),
+      ne-eqb _ _ (c .before .if3 .left),
     )
 
 pub event-of-spec : {M : Type 1} → statement M

@@ -26,8 +26,8 @@ number-at-requires c κs = search needs
 returns : tie.Need-returns
 returns c =
     rw (
-        c .number-at .ensures,
-        c .before .byte-at .ensures,
+      c .number-at .ensures,
+      c .before .byte-at .ensures,
     )
 
 pub hold-of-spec : {M : Type 1} → statement M

@@ -66,7 +66,7 @@ loop-less : tie.Need-loop-less Inv-loop μ-loop
 loop-less c = search needs
 
 loop-again : tie.Need-loop-again Inv-loop μ-loop
-loop-again c = 
+loop-again c =
     let l = c .before .before .before .before .before .loop in
     (search needs, simp length-set (l .inv .1), l .inv .2, three-more (c .before .before .before .before .before .before .args .t1) (l .bytes) (l .k) _ (omega arith) (l .inv .1) (c .before .before .flag-byte .ensures) (l .inv .3))
 

@@ -20,10 +20,10 @@ returns : tie.Need-returns
 unfolding isMaster
 returns c =
     rw (
-        c .flags-right .ensures,
-        c .before .byte-at3 .ensures,
-        c .before .before .byte-at2 .ensures,
-        c .before .before .before .byte-at .ensures,
+      c .flags-right .ensures,
+      c .before .byte-at3 .ensures,
+      c .before .before .byte-at2 .ensures,
+      c .before .before .before .byte-at .ensures,
     )
 
 pub is-master-spec : {M : Type 1} → statement M

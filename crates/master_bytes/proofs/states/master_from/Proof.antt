@@ -38,17 +38,17 @@ long-number-requires c κs = search needs
 returns : tie.Need-returns
 returns c =
     rw (
-        c .long-number .ensures,
-        c .before .number-at3 .ensures,
-        c .before .before .number-at2 .ensures,
-        c .before .before .before .number-at .ensures,
-        c .before .before .before .before .byte-at3 .ensures,
-        c .before .before .before .before .before .table-at .ensures,
-        c .before .before .before .before .before .before .holds-of .ensures,
-        c .before .before .before .before .before .before .before .phase-of .ensures,
-        c .before .before .before .before .before .before .before .before .byte-at2 .ensures,
-        c .before .before .before .before .before .before .before .before .before .state-of .ensures,
-        c .before .before .before .before .before .before .before .before .before .before .byte-at .ensures,
+      c .long-number .ensures,
+      c .before .number-at3 .ensures,
+      c .before .before .number-at2 .ensures,
+      c .before .before .before .number-at .ensures,
+      c .before .before .before .before .byte-at3 .ensures,
+      c .before .before .before .before .before .table-at .ensures,
+      c .before .before .before .before .before .before .holds-of .ensures,
+      c .before .before .before .before .before .before .before .phase-of .ensures,
+      c .before .before .before .before .before .before .before .before .byte-at2 .ensures,
+      c .before .before .before .before .before .before .before .before .before .state-of .ensures,
+      c .before .before .before .before .before .before .before .before .before .before .byte-at .ensures,
     )
 
 pub master-from-spec : {M : Type 1} → statement M

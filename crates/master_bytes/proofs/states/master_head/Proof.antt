@@ -32,9 +32,9 @@ cast-t20 c = search needs
 returns : tie.Need-returns
 returns c =
     rw (
-        c .before .before .flag-byte .ensures,
-        c .before .before .before .phase-byte .ensures,
-        c .before .before .before .before .state-byte .ensures,
+      c .before .before .flag-byte .ensures,
+      c .before .before .before .phase-byte .ensures,
+      c .before .before .before .before .state-byte .ensures,
     )
 
 pub master-head-spec : {M : Type 1} → statement M

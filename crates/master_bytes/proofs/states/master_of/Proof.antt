@@ -14,17 +14,17 @@ no-master-requires c κs = search needs
 returns : tie.Need-returns
 returns c =
     rw (
-        c .master-from .ensures,
-        ← c .before .before .is-master .ensures,
-        c .before .if1 .taken,
+      c .master-from .ensures,
+      ← c .before .before .is-master .ensures,
+      c .before .if1 .taken,
     )
 
 returns-2 : tie.Need-returns-2
 returns-2 c =
     rw (
-        c .no-master .ensures,
-        ← c .before .before .is-master .ensures,
-        c .before .if1 .left,
+      c .no-master .ensures,
+      ← c .before .before .is-master .ensures,
+      c .before .if1 .left,
     )
 
 pub master-of-spec : {M : Type 1} → statement M
