@@ -21,27 +21,27 @@ timesFrom s o =
 unfoldable pub entryFrom : List ℕ → ℕ → NodeEntry
 entryFrom s o = record { address = byte s o; class = byte s (o + 1); method = byte s (o + 2); reserved = byte s (o + 3) }
 
--- entry k of those from an offset on: "unused places zero"
-unfoldable pub nodeOf : List ℕ → ℕ → ℕ → ℕ → NodeEntry
-nodeOf s start count k = pick (ltb k count) (entryFrom s (start + 4 * k)) zeroEntry
+-- "From 32, N entries": "unused places zero"
+unfoldable pub nodeOf : List ℕ → ℕ → ℕ → NodeEntry
+nodeOf s count k = pick (ltb k count) (entryFrom s (32 + 4 * k)) zeroEntry
 
-unfoldable pub nodesOf : List ℕ → ℕ → ℕ → List NodeEntry
-nodesOf s start count = tab 16 (nodeOf s start count)
+unfoldable pub nodesOf : List ℕ → ℕ → List NodeEntry
+nodesOf s count = tab 16 (nodeOf s count)
 
 -- "rows of 4 bytes: ReqId ..; publisher ..; length ..; 1 if it carries a sequence count, else 0"
 unfoldable pub rowFrom : List ℕ → ℕ → Row
 rowFrom s o = record { reqid = byte s o; publisher = byte s (o + 1); length = byte s (o + 2); kind = byte s (o + 3) }
 
--- where row j lies: the first hundred count from one offset, as those of a first message block, the others from another
-unfoldable pub rowPlace : ℕ → ℕ → ℕ → ℕ
-rowPlace first second j = pick (ltb j 100) (first + 4 * j) (second + 4 * j)
+-- "from 8, rows": row 100 is the first of the second message block, at 1024 + 8
+unfoldable pub rowPlace : ℕ → ℕ
+rowPlace j = pick (ltb j 100) (520 + 4 * j) (632 + 4 * j)
 
 -- "unused places zero"
-unfoldable pub rowOf : List ℕ → ℕ → ℕ → ℕ → ℕ → Row
-rowOf s first second count j = pick (ltb j count) (rowFrom s (rowPlace first second j)) zeroRow
+unfoldable pub rowOf : List ℕ → ℕ → ℕ → Row
+rowOf s count j = pick (ltb j count) (rowFrom s (rowPlace j)) zeroRow
 
-unfoldable pub rowsOf : List ℕ → ℕ → ℕ → ℕ → List Row
-rowsOf s first second count = tab 127 (rowOf s first second count)
+unfoldable pub rowsOf : List ℕ → ℕ → List Row
+rowsOf s count = tab 127 (rowOf s count)
 
 -- "one or two message blocks"
 abbrev pub oneMessageBlock : List ℕ → Bool
@@ -51,8 +51,7 @@ oneMessageBlock s = eqb (length s) 1024
 unfoldable pub rowcountOf : List ℕ → ℕ
 rowcountOf s = pick (oneMessageBlock s) (byte s 516) (100 + byte s 1028)
 
--- "2-3 revision", "4 = N, nodes", "6-19 seven times", "From 32, N entries"; rows "from 8" of a message block: row 100 is the first
--- of the second one, at 1024 + 8
+-- "2-3 revision", "4 = N, nodes", "6-19 seven times"
 unfoldable pub planOf : List ℕ → Plan
 planOf s =
-    record { revision = number s 2; nodecount = byte s 4; times = timesFrom s 6; nodes = nodesOf s 32 (byte s 4); rowcount = rowcountOf s; rows = rowsOf s 520 632 (rowcountOf s) }
+    record { revision = number s 2; nodecount = byte s 4; times = timesFrom s 6; nodes = nodesOf s (byte s 4); rowcount = rowcountOf s; rows = rowsOf s (rowcountOf s) }

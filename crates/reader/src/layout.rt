@@ -1,6 +1,6 @@
 // The plan record of bytes, whether or not they keep the rules: of a set's, and of a packed record's.
 ghost use mathlib.Core.Path.{_≡_};
-ghost use Prim.Native.Nat.{_≤_, _<_};
+ghost use Prim.Native.Nat.{_<_};
 ghost use Rattle.reader.specs.Layout.{timesFrom, entryFrom, nodeOf, nodesOf, rowcountOf, rowPlace, rowFrom, rowOf, rowsOf, planOf};
 use blocks::byte_at;
 use blocks::number_at;
@@ -36,12 +36,12 @@ fn entry_from(s: &[u8], o: usize) -> NodeEntry
     }
 }
 
-fn node_of(s: &[u8], start: usize, count: usize, k: usize) -> NodeEntry
-    requires { ⌜ (start ≤ 2048) × (k < 16) ⌝ }
-    ensures { λ r. ⌜ r ≡ nodeOf (now (s .entry)) start count k ⌝ }
+fn node_of(s: &[u8], count: usize, k: usize) -> NodeEntry
+    requires { ⌜ k < 16 ⌝ }
+    ensures { λ r. ⌜ r ≡ nodeOf (now (s .entry)) count k ⌝ }
 {
     if k < count {
-        entry_from(s, start + 4 * k)
+        entry_from(s, 32 + 4 * k)
     } else {
         NodeEntry {
             address: 0,
@@ -52,9 +52,8 @@ fn node_of(s: &[u8], start: usize, count: usize, k: usize) -> NodeEntry
     }
 }
 
-pub(crate) fn nodes_of(s: &[u8], start: usize, count: usize) -> [NodeEntry; 16]
-    requires { ⌜ start ≤ 2048 ⌝ }
-    ensures { λ r. ⌜ r ≡ nodesOf (now (s .entry)) start count ⌝ }
+fn nodes_of(s: &[u8], count: usize) -> [NodeEntry; 16]
+    ensures { λ r. ⌜ r ≡ nodesOf (now (s .entry)) count ⌝ }
 {
     let zero = NodeEntry {
         address: 0,
@@ -65,7 +64,7 @@ pub(crate) fn nodes_of(s: &[u8], start: usize, count: usize) -> [NodeEntry; 16]
     let mut nodes = [zero; 16];
     let mut k: usize = 0;
     while k < 16 {
-        nodes[k] = node_of(s, start, count, k);
+        nodes[k] = node_of(s, count, k);
         k += 1;
     }
     nodes
@@ -81,15 +80,11 @@ fn rowcount_of(s: &[u8]) -> u16
     }
 }
 
-fn row_place(first: usize, second: usize, j: usize) -> usize
-    requires { ⌜ (first ≤ 2048) × (second ≤ 2048) × (j < 127) ⌝ }
-    ensures { λ r. ⌜ (r ≡ rowPlace first second j) × (r < 4096) ⌝ }
+fn row_place(j: usize) -> usize
+    requires { ⌜ j < 127 ⌝ }
+    ensures { λ r. ⌜ (r ≡ rowPlace j) × (r < 4096) ⌝ }
 {
-    if j < 100 {
-        first + 4 * j
-    } else {
-        second + 4 * j
-    }
+    if j < 100 { 520 + 4 * j } else { 632 + 4 * j }
 }
 
 // One test for four bytes, since this is done 127 times.
@@ -113,12 +108,12 @@ fn row_from(s: &[u8], o: usize) -> Row
     }
 }
 
-fn row_of(s: &[u8], first: usize, second: usize, count: usize, j: usize) -> Row
-    requires { ⌜ (first ≤ 2048) × (second ≤ 2048) × (j < 127) ⌝ }
-    ensures { λ r. ⌜ r ≡ rowOf (now (s .entry)) first second count j ⌝ }
+fn row_of(s: &[u8], count: usize, j: usize) -> Row
+    requires { ⌜ j < 127 ⌝ }
+    ensures { λ r. ⌜ r ≡ rowOf (now (s .entry)) count j ⌝ }
 {
     if j < count {
-        row_from(s, row_place(first, second, j))
+        row_from(s, row_place(j))
     } else {
         Row {
             reqid: 0,
@@ -129,9 +124,8 @@ fn row_of(s: &[u8], first: usize, second: usize, count: usize, j: usize) -> Row
     }
 }
 
-pub(crate) fn rows_of(s: &[u8], first: usize, second: usize, count: usize) -> [Row; 127]
-    requires { ⌜ (first ≤ 2048) × (second ≤ 2048) ⌝ }
-    ensures { λ r. ⌜ r ≡ rowsOf (now (s .entry)) first second count ⌝ }
+fn rows_of(s: &[u8], count: usize) -> [Row; 127]
+    ensures { λ r. ⌜ r ≡ rowsOf (now (s .entry)) count ⌝ }
 {
     let zero = Row {
         reqid: 0,
@@ -142,7 +136,7 @@ pub(crate) fn rows_of(s: &[u8], first: usize, second: usize, count: usize) -> [R
     let mut rows = [zero; 127];
     let mut j: usize = 0;
     while j < 127 {
-        rows[j] = row_of(s, first, second, count, j);
+        rows[j] = row_of(s, count, j);
         j += 1;
     }
     rows
@@ -154,8 +148,8 @@ pub(crate) fn plan_of(s: &[u8]) -> Plan
     let nodecount = byte_at(s, 4);
     let rowcount = rowcount_of(s);
     let times = times_from(s, 6);
-    let nodes = nodes_of(s, 32, nodecount as usize);
-    let rows = rows_of(s, 520, 632, rowcount as usize);
+    let nodes = nodes_of(s, nodecount as usize);
+    let rows = rows_of(s, rowcount as usize);
     Plan {
         revision: number_at(s, 2),
         nodecount,

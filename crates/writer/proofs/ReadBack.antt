@@ -65,20 +65,20 @@ module _ (p : Plan) (few-nodes : p .nodecount ≤ 16) (few-rows : p .rowcount �
       at : (m o : ℕ) → m < 4 → o ≡ 32 + 4 * k + m → byte (writeSet p) o ≡ getD (entryBytes (entryAt (p .nodes) k)) m 0
       at m o a b = rw b (node-byte p k m h few-nodes a)
 
-  pub nodes-back : nodesOf (writeSet p) 32 (byte (writeSet p) 4) ≡ tab 16 (usedEntry p)
+  pub nodes-back : nodesOf (writeSet p) (byte (writeSet p) 4) ≡ tab 16 (usedEntry p)
   unfolding nodesOf nodeOf usedEntry
-  nodes-back = rw nodecount-back (tab-ext 16 (nodeOf (writeSet p) 32 (p .nodecount)) (usedEntry p) (λ k h. go k (ltb k (p .nodecount)) refl))
+  nodes-back = rw nodecount-back (tab-ext 16 (nodeOf (writeSet p) (p .nodecount)) (usedEntry p) (λ k h. go k (ltb k (p .nodecount)) refl))
     where
-      go : (k : ℕ) (b : Bool) → ltb k (p .nodecount) ≡ b → nodeOf (writeSet p) 32 (p .nodecount) k ≡ usedEntry p k
+      go : (k : ℕ) (b : Bool) → ltb k (p .nodecount) ≡ b → nodeOf (writeSet p) (p .nodecount) k ≡ usedEntry p k
       go k true e = rw e (entry-back k (ltb-true _ _ e))
       go k false e = rw e
 
   -- byte m of row j
-  row-byte : (j m : ℕ) → j < p .rowcount → m < 4 → byte (writeSet p) (rowPlace 520 632 j + m) ≡ getD (rowBytes (rowAt (p .rows) j)) m 0
+  row-byte : (j m : ℕ) → j < p .rowcount → m < 4 → byte (writeSet p) (rowPlace j + m) ≡ getD (rowBytes (rowAt (p .rows) j)) m 0
   unfolding rowPlace rowsIn
   row-byte j m h q = go (ltb j 100) refl (leb (p .rowcount) 100) refl
     where
-      go : (a : Bool) → ltb j 100 ≡ a → (b : Bool) → leb (p .rowcount) 100 ≡ b → byte (writeSet p) (rowPlace 520 632 j + m) ≡ getD (rowBytes (rowAt (p .rows) j)) m 0
+      go : (a : Bool) → ltb j 100 ≡ a → (b : Bool) → leb (p .rowcount) 100 ≡ b → byte (writeSet p) (rowPlace j + m) ≡ getD (rowBytes (rowAt (p .rows) j)) m 0
       go true e b f =
           let near : j < 100 = ltb-true _ _ e in
           let o : 520 + 4 * j + m ≡ 512 * 1 + (8 + 4 * j + m) = omega arith in
@@ -95,10 +95,10 @@ module _ (p : Plan) (few-nodes : p .nodecount ≤ 16) (few-rows : p .rowcount �
           let z : 100 + (j - 100) ≡ j = omega arith in
           rw (e, o) (message-row p 2 (omega arith) (rw f (omega arith)) (j - 100) m (omega arith) (omega arith) q ∙ ap (λ k. getD (rowBytes (rowAt (p .rows) k)) m 0) z)
 
-  row-back : (j : ℕ) → j < p .rowcount → rowFrom (writeSet p) (rowPlace 520 632 j) ≡ rowAt (p .rows) j
+  row-back : (j : ℕ) → j < p .rowcount → rowFrom (writeSet p) (rowPlace j) ≡ rowAt (p .rows) j
   unfolding rowFrom
   row-back j h =
-      let z : rowPlace 520 632 j + 0 ≡ rowPlace 520 632 j = omega arith in
+      let z : rowPlace j + 0 ≡ rowPlace j = omega arith in
       λ i. record {
         reqid = (rw z at (row-byte j 0 h (omega arith))) i;
         publisher = row-byte j 1 h (omega arith) i;
@@ -106,11 +106,11 @@ module _ (p : Plan) (few-nodes : p .nodecount ≤ 16) (few-rows : p .rowcount �
         kind = row-byte j 3 h (omega arith) i;
       }
 
-  pub rows-back : rowsOf (writeSet p) 520 632 (rowcountOf (writeSet p)) ≡ tab 127 (usedRow p)
+  pub rows-back : rowsOf (writeSet p) (rowcountOf (writeSet p)) ≡ tab 127 (usedRow p)
   unfolding rowsOf rowOf usedRow
-  rows-back = rw rowcount-back (tab-ext 127 (rowOf (writeSet p) 520 632 (p .rowcount)) (usedRow p) (λ k h. go k (ltb k (p .rowcount)) refl))
+  rows-back = rw rowcount-back (tab-ext 127 (rowOf (writeSet p) (p .rowcount)) (usedRow p) (λ k h. go k (ltb k (p .rowcount)) refl))
     where
-      go : (k : ℕ) (b : Bool) → ltb k (p .rowcount) ≡ b → rowOf (writeSet p) 520 632 (p .rowcount) k ≡ usedRow p k
+      go : (k : ℕ) (b : Bool) → ltb k (p .rowcount) ≡ b → rowOf (writeSet p) (p .rowcount) k ≡ usedRow p k
       go k true e = rw e (row-back k (ltb-true _ _ e))
       go k false e = rw e
 

@@ -5,30 +5,21 @@ use mathlib.Core.List.{List}
 use lib.ListN.{length, getD}
 use native.Mathlib.Omega.{arith}
 use native.Mathlib.Decide.{decLt}
-use borrow.Author.Tests.{lt-ltb, le-ltb}
+use borrow.Author.Tests.{lt-ltb, le-ltb, eq-eqb}
 use Rattle.folds.specs.Fold.{tab}
-use Rattle.folds.proofs.Tables.{getD-tab, tab-of}
+use Rattle.folds.proofs.Tables.{getD-tab, length-tab, tab-of}
 use Rattle.blocks.specs.Bytes.{byte, number, highByte, lowByte}
 use Rattle.blocks.proofs.Halves.{from-halves, high-at, low-at}
 use Rattle.plan.specs.declared.NodeEntry.{NodeEntry}
 use Rattle.plan.specs.declared.Row.{Row}
 use Rattle.plan.specs.declared.Plan.{Plan}
 use Rattle.plan.specs.Record.{zeroEntry, zeroRow, entryAt, rowAt}
-use Rattle.reader.specs.Layout.{timesFrom, entryFrom, nodeOf, nodesOf, rowPlace, rowFrom, rowOf, rowsOf}
-use Rattle.reader.specs.Record.{recordOf}
+use Rattle.reader.specs.Layout.{timesFrom, entryFrom, rowFrom}
+use Rattle.reader.specs.Record.{recordEntry, recordRow, recordOf}
 use Rattle.writer.specs.Write.{entryBytes, rowBytes}
 use Rattle.writer.specs.Record.{recordHead, recordByte, recordBytes}
 use Rattle.writer.proofs.Fours.{entry-byte, row-byte}
 use Rattle.writer.proofs.Runs.{entry-four, row-four}
-
--- a record's rows have no gap
-one-place : (j : ℕ) → rowPlace 83 83 j ≡ 83 + 4 * j
-unfolding rowPlace
-one-place j = go (decLt j 100)
-  where
-    go : Dec (j < 100) → rowPlace 83 83 j ≡ 83 + 4 * j
-    go (yes h) = rw (lt-ltb j 100 h)
-    go (no h) = rw (le-ltb j 100 (omega arith))
 
 module _ (p : Plan) (nodes-long : length (p .nodes) ≡ 16) (rows-long : length (p .rows) ≡ 127) where
   byte-is : (o : ℕ) → o < 591 → byte (recordBytes p) o ≡ recordByte p o
@@ -83,19 +74,17 @@ module _ (p : Plan) (nodes-long : length (p .nodes) ≡ 16) (rows-long : length 
           let y : 0 + j ≡ j = omega arith in
           byte-is o (omega arith) ∙ rw (le-ltb o 19 (omega arith), le-ltb o 83 (omega arith), z) (sym (row-four (p .rows) 0 j m a) ∙ ap (λ x. getD (rowBytes (rowAt (p .rows) x)) m 0) y)
 
-  nodes-back : nodesOf (recordBytes p) 19 16 ≡ p .nodes
-  unfolding nodesOf nodeOf
-  nodes-back = sym (tab-of zeroEntry 16 (nodeOf (recordBytes p) 19 16) (p .nodes) nodes-long (λ k h. sym (rw (lt-ltb k 16 h) (entry-back k h))))
+  nodes-back : tab 16 (recordEntry (recordBytes p)) ≡ p .nodes
+  nodes-back = sym (tab-of zeroEntry 16 (recordEntry (recordBytes p)) (p .nodes) nodes-long (λ k h. sym (entry-back k h)))
 
-  rows-back : rowsOf (recordBytes p) 83 83 127 ≡ p .rows
-  unfolding rowsOf rowOf
-  rows-back = sym (tab-of zeroRow 127 (rowOf (recordBytes p) 83 83 127) (p .rows) rows-long (λ j h. sym (rw (lt-ltb j 127 h, one-place j) (row-back j h))))
+  rows-back : tab 127 (recordRow (recordBytes p)) ≡ p .rows
+  rows-back = sym (tab-of zeroRow 127 (recordRow (recordBytes p)) (p .rows) rows-long (λ j h. sym (row-back j h)))
 
   -- unpacking what was packed gives the plan back
   pub record-back : recordOf (recordBytes p) ≡ p
-  unfolding recordOf recordHead
+  unfolding recordOf recordHead recordBytes
   record-back =
-      λ i. record {
+      rw (eq-eqb (length (recordBytes p)) 591 (length-tab 591 (recordByte p))) λ i. record {
         revision = from-halves _ _ _ (head-byte 0 (omega arith)) (head-byte 1 (omega arith)) i;
         nodecount = head-byte 2 (omega arith) i;
         times = times-back i;
@@ -114,17 +103,25 @@ module _ (s : List ℕ) (size : length s ≡ 591) (bytes : (o : ℕ) → byte s 
   head-is : recordHead (recordOf s) ≡ tab 19 (byte s)
   unfolding recordHead recordOf timesFrom tab
   head-is =
-      cc (high 0, low 0, high 3, low 3, high 5, low 5, high 7, low 7, high 9, low 9, high 11, low 11, high 13, low 13, high 15, low 15, high 17, low 17)
+      rw (eq-eqb (length s) 591 size) cc (high 0, low 0, high 3, low 3, high 5, low 5, high 7, low 7, high 9, low 9, high 11, low 11, high 13, low 13, high 15, low 15, high 17, low 17)
+
+  nodes-are : recordOf s .nodes ≡ tab 16 (recordEntry s)
+  unfolding recordOf
+  nodes-are = rw (eq-eqb (length s) 591 size)
+
+  rows-are : recordOf s .rows ≡ tab 127 (recordRow s)
+  unfolding recordOf
+  rows-are = rw (eq-eqb (length s) 591 size)
 
   entry-is : (k i : ℕ) → k < 16 → i < 4 → getD (entryBytes (entryAt (recordOf s .nodes) k)) i 0 ≡ byte s (19 + 4 * k + i)
-  unfolding recordOf nodesOf nodeOf
   entry-is k i a b =
-      ap (λ (e : NodeEntry). getD (entryBytes e) i 0) (getD-tab 16 (nodeOf s 19 16) k zeroEntry a ∙ rw (lt-ltb k 16 a)) ∙ entry-byte s (19 + 4 * k) i b
+      ap (λ l. getD (entryBytes (entryAt l k)) i 0) nodes-are ∙ ap (λ (e : NodeEntry). getD (entryBytes e) i 0) (getD-tab 16 (recordEntry s) k zeroEntry a)
+      ∙ entry-byte s (19 + 4 * k) i b
 
   row-is : (j i : ℕ) → j < 127 → i < 4 → getD (rowBytes (rowAt (recordOf s .rows) j)) i 0 ≡ byte s (83 + 4 * j + i)
-  unfolding recordOf rowsOf rowOf
   row-is j i a b =
-      ap (λ (r : Row). getD (rowBytes r) i 0) (getD-tab 127 (rowOf s 83 83 127) j zeroRow a ∙ rw (lt-ltb j 127 a, one-place j)) ∙ row-byte s (83 + 4 * j) i b
+      ap (λ l. getD (rowBytes (rowAt l j)) i 0) rows-are ∙ ap (λ (r : Row). getD (rowBytes r) i 0) (getD-tab 127 (recordRow s) j zeroRow a)
+      ∙ row-byte s (83 + 4 * j) i b
 
   data-is : (o : ℕ) → o < 591 → recordByte (recordOf s) o ≡ byte s o
   unfolding recordByte

@@ -162,7 +162,7 @@ module _ (s : List ℕ) (r : AcceptedSet s) where
     entry-is : (k i : ℕ) → k < byte s 4 → i < 4 → getD (entryBytes (entryAt (planOf s .nodes) k)) i 0 ≡ byte s (32 + 4 * k + i)
     unfolding planOf nodesOf nodeOf
     entry-is k i a b =
-        ap (λ (e : NodeEntry). getD (entryBytes e) i 0) (getD-tab 16 (nodeOf s 32 (byte s 4)) k zeroEntry (omega (arith, nodes-bound)) ∙ rw (lt-ltb k (byte s 4) a)) ∙ entry-byte s (32 + 4 * k) i b
+        ap (λ (e : NodeEntry). getD (entryBytes e) i 0) (getD-tab 16 (nodeOf s (byte s 4)) k zeroEntry (omega (arith, nodes-bound)) ∙ rw (lt-ltb k (byte s 4) a)) ∙ entry-byte s (32 + 4 * k) i b
 
     no-plan-name : (o : ℕ) → 32 + 4 * byte s 4 ≤ o → o < 510 → named s o ≡ false
     unfolding named
@@ -234,23 +234,23 @@ module _ (s : List ℕ) (r : AcceptedSet s) where
           let d : byte s (512 * b + 0) ≡ 0x4d = ap (byte s) z ∙ m .0 ∙ k in
           cc (d, m .1, a, c, blank 5 (omega arith) refl, blank 6 (omega arith) refl, blank 7 (omega arith) refl)
 
-      place-is : (k : ℕ) → k < byte s (512 * b + 4) → (100 * (b - 1) + k < planOf s .rowcount) × (rowPlace 520 632 (100 * (b - 1) + k) ≡ 512 * b + (8 + 4 * k))
+      place-is : (k : ℕ) → k < byte s (512 * b + 4) → (100 * (b - 1) + k < planOf s .rowcount) × (rowPlace (100 * (b - 1) + k) ≡ 512 * b + (8 + 4 * k))
       unfolding rowPlace
       place-is k q = ⊎-elim short-set long-set size-of
         where
-          near : b ≡ 1 → (100 * (b - 1) + k < planOf s .rowcount) → k < 100 → (100 * (b - 1) + k < planOf s .rowcount) × (rowPlace 520 632 (100 * (b - 1) + k) ≡ 512 * b + (8 + 4 * k))
+          near : b ≡ 1 → (100 * (b - 1) + k < planOf s .rowcount) → k < 100 → (100 * (b - 1) + k < planOf s .rowcount) × (rowPlace (100 * (b - 1) + k) ≡ 512 * b + (8 + 4 * k))
           near e a c = (a, rw (lt-ltb (100 * (b - 1) + k) 100 (omega arith)) (omega arith))
 
-          short-set : Short s → (100 * (b - 1) + k < planOf s .rowcount) × (rowPlace 520 632 (100 * (b - 1) + k) ≡ 512 * b + (8 + 4 * k))
+          short-set : Short s → (100 * (b - 1) + k < planOf s .rowcount) × (rowPlace (100 * (b - 1) + k) ≡ 512 * b + (8 + 4 * k))
           short-set w =
               let e : b ≡ 1 = omega arith in
               let f : byte s (512 * b + 4) ≡ byte s 516 = ap (byte s) (omega arith) in
               near e (omega arith) (omega arith)
 
-          long-set : Long s → (100 * (b - 1) + k < planOf s .rowcount) × (rowPlace 520 632 (100 * (b - 1) + k) ≡ 512 * b + (8 + 4 * k))
+          long-set : Long s → (100 * (b - 1) + k < planOf s .rowcount) × (rowPlace (100 * (b - 1) + k) ≡ 512 * b + (8 + 4 * k))
           long-set w = go (eqb b 1) refl
             where
-              go : (c : Bool) → eqb b 1 ≡ c → (100 * (b - 1) + k < planOf s .rowcount) × (rowPlace 520 632 (100 * (b - 1) + k) ≡ 512 * b + (8 + 4 * k))
+              go : (c : Bool) → eqb b 1 ≡ c → (100 * (b - 1) + k < planOf s .rowcount) × (rowPlace (100 * (b - 1) + k) ≡ 512 * b + (8 + 4 * k))
               go true u =
                   let e : b ≡ 1 = eqb-true _ _ u in
                   let f : byte s (512 * b + 4) ≡ byte s 516 = ap (byte s) (omega arith) in
@@ -264,7 +264,7 @@ module _ (s : List ℕ) (r : AcceptedSet s) where
       row-is : (k i : ℕ) → k < byte s (512 * b + 4) → i < 4 → getD (rowBytes (rowAt (planOf s .rows) (100 * (b - 1) + k))) i 0 ≡ byte s (512 * b + (8 + 4 * k + i))
       unfolding planOf rowsOf rowOf
       row-is k i a q =
-          ap (λ (e : Row). getD (rowBytes e) i 0) (getD-tab 127 (rowOf s 520 632 (rowcountOf s)) j zeroRow (omega (arith, place-is k a .0, rows-few (planOf s) (kept .rows))) ∙ rw (lt-ltb j (rowcountOf s) (place-is k a .0), place-is k a .1)) ∙ row-byte s (512 * b + (8 + 4 * k)) i q ∙ ap (byte s) (omega arith)
+          ap (λ (e : Row). getD (rowBytes e) i 0) (getD-tab 127 (rowOf s (rowcountOf s)) j zeroRow (omega (arith, place-is k a .0, rows-few (planOf s) (kept .rows))) ∙ rw (lt-ltb j (rowcountOf s) (place-is k a .0), place-is k a .1)) ∙ row-byte s (512 * b + (8 + 4 * k)) i q ∙ ap (byte s) (omega arith)
         where
           j : ℕ
           j = 100 * (b - 1) + k

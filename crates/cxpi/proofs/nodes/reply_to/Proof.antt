@@ -12,10 +12,10 @@ refused-requires c κs = search needs
 returns : tie.Need-returns
 returns c =
     rw (
-        c .refused .ensures,
-        ← c .before .before .before .read-record .ensures,
-        eq-eqb _ _ (c .before .before .if1 .taken),
-        lt-ltb _ _ (c .before .if2 .taken),
+      c .refused .ensures,
+      ← c .before .before .before .read-record .ensures,
+      eq-eqb _ _ (c .before .before .if1 .taken),
+      lt-ltb _ _ (c .before .if2 .taken),
     )
 
 node-of-requires : tie.Need-node-of-requires
@@ -30,12 +30,12 @@ step-under-requires c κs = search needs
 returns-2 : tie.Need-returns-2
 returns-2 c =
     rw (
-        c .step-under .ensures,
-        c .before .event-of .ensures,
-        c .before .before .node-of .ensures,
-        ← c .before .before .before .before .before .before .read-record .ensures,
-        eq-eqb _ _ (c .before .before .before .before .before .if1 .taken),
-        le-ltb _ _ (c .before .before .before .before .if2 .left),
+      c .step-under .ensures,
+      c .before .event-of .ensures,
+      c .before .before .node-of .ensures,
+      ← c .before .before .before .before .before .before .read-record .ensures,
+      eq-eqb _ _ (c .before .before .before .before .before .if1 .taken),
+      le-ltb _ _ (c .before .before .before .before .if2 .left),
     )
 
 refused-requires-2 : tie.Need-refused-requires-2
@@ -44,9 +44,9 @@ refused-requires-2 c κs = search needs
 returns-3 : tie.Need-returns-3
 returns-3 c =
     rw (
-        c .refused2 .ensures,
-        ← c .before .before .read-record .ensures,
-        ne-eqb _ _ (c .before .if1 .left),
+      c .refused2 .ensures,
+      ← c .before .before .read-record .ensures,
+      ne-eqb _ _ (c .before .if1 .left),
     )
 
 pub reply-to-spec : {M : Type 1} → statement M

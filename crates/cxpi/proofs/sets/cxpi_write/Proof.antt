@@ -24,7 +24,7 @@ returns-2 : tie.Need-returns-2
 returns-2 c = write-refused _ _ _ _ _ (c .before .before .before .before .before .before .before .before .if1 .left) (c .before .before .before .before .before .before .before .record-of .ensures) (c .before .before .before .before .before .write .ensures .0) (c .before .before .before .before .before .write .ensures .1) (c .before .if2 .taken)
 
 cast-result-2 : tie.Need-cast-result-2
-cast-result-2 c = 
+cast-result-2 c =
     let short = answer-short _ _ _ (c .before .before .before .before .before .write .ensures .0) in
     record { fits = omega arith }
 

@@ -11,13 +11,13 @@ use Rattle.reader.proofs.layout.nodes_of.Statement.{statement}
 use Rattle.reader.proofs.layout.nodes_of.Tie as tie
 
 abbrev Inv-loop : tie.InvT-loop
-Inv-loop s start count nodes₀ k₀ nodes k = (start ≤ 2048) × (k ≤ 16) × (length nodes ≡ 16) × ((i : ℕ) → i < k → getD nodes i zeroEntry ≡ nodeOf s start count i)
+Inv-loop s count nodes₀ k₀ nodes k = (k ≤ 16) × (length nodes ≡ 16) × ((i : ℕ) → i < k → getD nodes i zeroEntry ≡ nodeOf s count i)
 
 abbrev μ-loop : tie.MeasureT-loop
-μ-loop s start count nodes₀ k₀ nodes k = 16 - k
+μ-loop s count nodes₀ k₀ nodes k = 16 - k
 
 loop-holds : tie.Need-loop-holds Inv-loop μ-loop
-loop-holds c = (search needs, search needs, refl, λ i p. absurd (omega arith))
+loop-holds c = (search needs, refl, λ i p. absurd (omega arith))
 
 node-of-requires : tie.Need-node-of-requires Inv-loop μ-loop
 node-of-requires c κs = search needs
@@ -38,11 +38,11 @@ loop-again : tie.Need-loop-again Inv-loop μ-loop
 loop-again c =
     let l = c .before .before .loop in
     let a = c .before .before .before .before .args in
-    (search needs, search needs, simp length-set (search needs), filled-more zeroEntry (nodeOf (a .s .now) (a .start) (a .count)) (l .nodes) (l .k) (c .node-of .result) (search needs) (c .node-of .ensures) (l .inv .3))
+    (search needs, simp length-set (search needs), filled-more zeroEntry (nodeOf (a .s .now) (a .count)) (l .nodes) (l .k) (c .node-of .result) (search needs) (c .node-of .ensures) (l .inv .2))
 
 returns : tie.Need-returns Inv-loop μ-loop
 unfolding nodesOf
-returns c = tab-of zeroEntry 16 _ _ (c .before .loop .inv .2) (λ i p. c .before .loop .inv .3 i (omega arith))
+returns c = tab-of zeroEntry 16 _ _ (c .before .loop .inv .1) (λ i p. c .before .loop .inv .2 i (omega arith))
 
 pub nodes-of-spec : {M : Type 1} → statement M
 nodes-of-spec =

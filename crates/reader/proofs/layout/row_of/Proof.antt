@@ -1,7 +1,7 @@
 -- By the test. Assumes nothing.
+use borrow.Author.Tests.{lt-ltb, le-ltb}
 use Rattle.reader.specs.Layout.{rowOf}
 use borrow.Author.Needs.{needs}
-use borrow.Author.Tests.{le-ltb, lt-ltb}
 use Rattle.reader.proofs.layout.row_of.Statement.{statement}
 use Rattle.reader.proofs.layout.row_of.Tie as tie
 

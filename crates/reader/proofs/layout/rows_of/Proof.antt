@@ -11,13 +11,13 @@ use Rattle.reader.proofs.layout.rows_of.Statement.{statement}
 use Rattle.reader.proofs.layout.rows_of.Tie as tie
 
 abbrev Inv-loop : tie.InvT-loop
-Inv-loop s first second count rows₀ j₀ rows j = (first ≤ 2048) × (second ≤ 2048) × (j ≤ 127) × (length rows ≡ 127) × ((i : ℕ) → i < j → getD rows i zeroRow ≡ rowOf s first second count i)
+Inv-loop s count rows₀ j₀ rows j = (j ≤ 127) × (length rows ≡ 127) × ((i : ℕ) → i < j → getD rows i zeroRow ≡ rowOf s count i)
 
 abbrev μ-loop : tie.MeasureT-loop
-μ-loop s first second count rows₀ j₀ rows j = 127 - j
+μ-loop s count rows₀ j₀ rows j = 127 - j
 
 loop-holds : tie.Need-loop-holds Inv-loop μ-loop
-loop-holds c = (search needs, search needs, search needs, refl, λ i p. absurd (omega arith))
+loop-holds c = (search needs, refl, λ i p. absurd (omega arith))
 
 row-of-requires : tie.Need-row-of-requires Inv-loop μ-loop
 row-of-requires c κs = search needs
@@ -38,11 +38,11 @@ loop-again : tie.Need-loop-again Inv-loop μ-loop
 loop-again c =
     let l = c .before .before .loop in
     let a = c .before .before .before .before .args in
-    (search needs, search needs, search needs, simp length-set (search needs), filled-more zeroRow (rowOf (a .s .now) (a .first) (a .second) (a .count)) (l .rows) (l .j) (c .row-of .result) (search needs) (c .row-of .ensures) (l .inv .4))
+    (search needs, simp length-set (search needs), filled-more zeroRow (rowOf (a .s .now) (a .count)) (l .rows) (l .j) (c .row-of .result) (search needs) (c .row-of .ensures) (l .inv .2))
 
 returns : tie.Need-returns Inv-loop μ-loop
 unfolding rowsOf
-returns c = tab-of zeroRow 127 _ _ (c .before .loop .inv .3) (λ i p. c .before .loop .inv .4 i (omega arith))
+returns c = tab-of zeroRow 127 _ _ (c .before .loop .inv .1) (λ i p. c .before .loop .inv .2 i (omega arith))
 
 pub rows-of-spec : {M : Type 1} → statement M
 rows-of-spec =
