@@ -1,0 +1,283 @@
+/* A small firmware host of CXPI network management: one master and its nodes on a bus that is stood in for by function calls.
+ *
+ * On a real unit the tick is a timer interrupt, the bus is the CXPI driver, and the unit runs the master or one node. Here all of them
+ * run in one program, which makes document 01's twelve moves and prints after each the line that document 01 gives, and indented what
+ * the machines commanded. Only cxpi.h and the archive are used; see README.md for how to compile. */
+#include <signal.h>
+#include <stdbool.h>
+#include <stdio.h>
+#include <string.h>
+
+#include "cxpi.h"
+
+enum { MOST_NODES = 16, MASTER_PUBLISHER = 255 };
+
+/* Set T of document 01 as it would stand in flash. */
+static const uint8_t set_in_flash[CXPI_SET_LENGTH_ONE] = {
+    [0] = 0x50,    [1] = 1,       [3] = 7,   [4] = 1,                                 /* plan block: revision 7, one node */
+    [7] = 10,      [9] = 2,       [11] = 3,  [13] = 4,  [15] = 5, [17] = 6, [19] = 1, /* times W, D, S, E, R, P, C */
+    [32] = 0x41,   [33] = 1,      [34] = 1,                                           /* node 0: address 41 hex, class 1, polled */
+    [510] = 0x0A,  [511] = 0xA9,                                                      /* check */
+    [512] = 0x4D,  [513] = 1,     [515] = 7, [516] = 1,                               /* message block: one row */
+    [520] = 16,    [521] = 0,     [522] = 2, [523] = 1,                               /* ReqId 16 of node 0, two bytes, with a count */
+    [1022] = 0x01, [1023] = 0x22,                                                     /* check */
+};
+
+/* All that the host keeps: the plan record and the packed states. */
+static uint8_t plan[CXPI_PLAN_LENGTH];
+static uint8_t master[CXPI_MASTER_LENGTH];
+static uint8_t nodes[MOST_NODES][CXPI_NODE_LENGTH];
+static bool clock_runs;
+static volatile sig_atomic_t tick_due;
+
+static unsigned node_count(void) {
+    return plan[2];
+}
+
+/* The row of a ReqId in the plan record: ReqId, publisher, length, counted. */
+static const uint8_t *find_row(uint8_t reqid) {
+    unsigned rows = (unsigned)plan[3] << 8 | plan[4];
+    for (unsigned row = 0; row < rows; row++) {
+        const uint8_t *bytes = &plan[83 + 4 * row];
+        if (bytes[0] == reqid) {
+            return bytes;
+        }
+    }
+    return NULL;
+}
+
+/* The master's side: a step, and what it commands is done */
+
+static uint32_t step_master(const uint8_t *event, size_t length) {
+    uint8_t answer[CXPI_MASTER_ANSWER_LENGTH];
+    uint32_t result = cxpi_master_step(plan, sizeof plan, master, sizeof master, event, length, answer, sizeof answer);
+    if (CXPI_REFUSAL(result) == CXPI_NOT_HELD) {
+        printf("  master: permission of node %u is not held\n", (unsigned)CXPI_NODE_NAMED(result));
+    }
+    if (result != CXPI_DONE) {
+        return CXPI_REFUSAL(result);
+    }
+    switch (answer[0]) {
+    case CXPI_CLOCK_ON:
+        clock_runs = true;
+        printf("  master: clock on\n");
+        break;
+    case CXPI_CLOCK_OFF:
+        clock_runs = false;
+        printf("  master: clock off\n");
+        break;
+    case CXPI_SEND_SLEEP_MESSAGE: /* the driver sends it and reports by bus_result */
+        printf("  master: sleep message\n");
+        break;
+    default:
+        break;
+    }
+    if (answer[1] > 0) {
+        printf("  master: %u answers lost\n", answer[1]);
+    }
+    return CXPI_DONE;
+}
+
+/* A node's side: a step; the answer says what the bus is to carry */
+
+static uint32_t step_node(unsigned node, const uint8_t *event, size_t length, uint8_t *answer) {
+    memset(answer, 0, CXPI_NODE_ANSWER_LENGTH);
+    return cxpi_node_step(plan, sizeof plan, (uint8_t)node, nodes[node], CXPI_NODE_LENGTH, event, length, answer,
+                          CXPI_NODE_ANSWER_LENGTH);
+}
+
+/* The bus stand-in: nothing is lost on it */
+
+static void bus_pulse(unsigned sender) {
+    static const uint8_t to_master[] = {CXPI_MASTER_PULSE};
+    static const uint8_t to_node[] = {CXPI_NODE_PULSE};
+    uint8_t answer[CXPI_NODE_ANSWER_LENGTH];
+    printf("  node %u: wake-up pulse\n", sender);
+    step_master(to_master, sizeof to_master);
+    for (unsigned node = 0; node < node_count(); node++) {
+        if (node != sender) {
+            step_node(node, to_node, sizeof to_node, answer);
+        }
+    }
+}
+
+static uint32_t bus_answer(unsigned sender, uint8_t reqid, uint8_t length, const uint8_t *answer) {
+    uint8_t event[9] = {CXPI_MASTER_ANSWER, reqid, 0, 0, 0, length, answer[3], answer[1], answer[2]};
+    printf("  node %u: answer to %u, permission %u, wake bit %u, count %u\n", sender, reqid, answer[1], answer[2], answer[3]);
+    return step_master(event, sizeof event);
+}
+
+/* A request goes to all nodes, the publisher's answer back to the master. */
+static uint32_t bus_request(uint8_t reqid) {
+    uint8_t event[2] = {CXPI_NODE_REQUEST, reqid};
+    uint8_t answers[MOST_NODES][CXPI_NODE_ANSWER_LENGTH];
+    const uint8_t *row = find_row(reqid);
+    uint32_t refusal = CXPI_DONE;
+    if (!clock_runs) {
+        return CXPI_NEEDS_NORMAL;
+    }
+    if (row == NULL) {
+        return CXPI_NO_REQID;
+    }
+    for (unsigned node = 0; node < node_count(); node++) {
+        uint32_t of_node = step_node(node, event, sizeof event, answers[node]);
+        if (node == row[1]) {
+            refusal = of_node;
+        }
+    }
+    if (refusal != CXPI_DONE || row[1] == MASTER_PUBLISHER) {
+        return refusal;
+    }
+    return bus_answer(row[1], reqid, row[2], answers[row[1]]);
+}
+
+/* The driver's report that the sleep message went out; with it the nodes have got it. */
+static uint32_t bus_result(bool sent) {
+    uint8_t to_master[2] = {CXPI_MASTER_SEND_RESULT, sent};
+    static const uint8_t to_node[] = {CXPI_NODE_SLEEP_MESSAGE};
+    uint8_t answer[CXPI_NODE_ANSWER_LENGTH];
+    uint32_t refusal = step_master(to_master, sizeof to_master);
+    if (refusal != CXPI_DONE || !sent) {
+        return refusal;
+    }
+    for (unsigned node = 0; node < node_count(); node++) {
+        step_node(node, to_node, sizeof to_node, answer);
+    }
+    return CXPI_DONE;
+}
+
+/* The tick: the interrupt leaves a mark, the main loop does the work */
+
+static void tick_interrupt(void) {
+    tick_due = 1;
+}
+
+static uint32_t handle_tick(void) {
+    static const uint8_t to_master[] = {CXPI_MASTER_TICK};
+    bool pulses[MOST_NODES] = {false};
+    uint8_t to_node[2] = {CXPI_NODE_TICK, 0};
+    uint32_t refusal = step_master(to_master, sizeof to_master);
+    to_node[1] = clock_runs;
+    for (unsigned node = 0; node < node_count(); node++) {
+        uint8_t answer[CXPI_NODE_ANSWER_LENGTH];
+        step_node(node, to_node, sizeof to_node, answer);
+        pulses[node] = answer[0] == CXPI_SEND_PULSE;
+    }
+    for (unsigned node = 0; node < node_count(); node++) {
+        if (pulses[node]) {
+            bus_pulse(node);
+        }
+    }
+    return refusal;
+}
+
+/* What the application asks for */
+
+static uint32_t wake_node(unsigned node) {
+    static const uint8_t event[] = {CXPI_NODE_WAKE};
+    uint8_t answer[CXPI_NODE_ANSWER_LENGTH];
+    uint32_t refusal = step_node(node, event, sizeof event, answer);
+    if (refusal == CXPI_DONE && answer[0] == CXPI_SEND_PULSE) {
+        bus_pulse(node);
+    }
+    return refusal;
+}
+
+static uint32_t permit_node(unsigned node, bool permission) {
+    uint8_t event[2] = {CXPI_NODE_PERMISSION, permission};
+    uint8_t answer[CXPI_NODE_ANSWER_LENGTH];
+    return step_node(node, event, sizeof event, answer);
+}
+
+static uint32_t permit_master(bool permission) {
+    uint8_t event[2] = {CXPI_MASTER_PERMISSION, permission};
+    return step_master(event, sizeof event);
+}
+
+static uint32_t ask_for_sleep(void) {
+    static const uint8_t event[] = {CXPI_MASTER_SLEEP};
+    return step_master(event, sizeof event);
+}
+
+/* Document 01's twelve moves */
+
+typedef enum { MOVE_TICK, MOVE_WAKE_NODE, MOVE_PERMIT_NODE, MOVE_PERMIT_MASTER, MOVE_REQUEST, MOVE_SLEEP, MOVE_SENT } move;
+
+static const move moves[] = {MOVE_WAKE_NODE, MOVE_TICK,  MOVE_PERMIT_NODE, MOVE_PERMIT_MASTER, MOVE_REQUEST, MOVE_SLEEP,
+                             MOVE_REQUEST,   MOVE_SLEEP, MOVE_SENT,        MOVE_TICK,          MOVE_TICK,    MOVE_TICK};
+
+enum { MOVES = sizeof moves / sizeof moves[0] };
+
+static uint32_t make_move(move made) {
+    switch (made) {
+    case MOVE_WAKE_NODE:
+        return wake_node(0);
+    case MOVE_PERMIT_NODE:
+        return permit_node(0, true);
+    case MOVE_PERMIT_MASTER:
+        return permit_master(true);
+    case MOVE_REQUEST:
+        return bus_request(16);
+    case MOVE_SLEEP:
+        return ask_for_sleep();
+    case MOVE_SENT:
+        return bus_result(true);
+    default:
+        return CXPI_DONE;
+    }
+}
+
+static void print_line(unsigned number, uint32_t refusal) {
+    static const char letters[] = {[CXPI_NORMAL] = 'N', [CXPI_STANDBY] = 'S', [CXPI_SLEEP] = 'Z'};
+    printf("%u %c%u %d ", number, letters[master[0]], master[1], clock_runs);
+    for (unsigned node = 0; node < node_count(); node++) {
+        printf("%c%s", letters[nodes[node][0]], nodes[node][2] ? "!" : "");
+    }
+    printf(" %u\n", (unsigned)refusal);
+}
+
+static void main_loop(void) {
+    for (unsigned number = 1; number <= MOVES; number++) {
+        uint32_t refusal;
+        move made = moves[number - 1];
+        if (made == MOVE_TICK) {
+            tick_interrupt();
+        }
+        if (tick_due) {
+            tick_due = 0;
+            refusal = handle_tick();
+        } else {
+            refusal = make_move(made);
+        }
+        print_line(number, refusal);
+    }
+}
+
+/* Reads the set of a file, or the one in flash, into the plan record. */
+static uint32_t read_set(const char *path) {
+    static uint8_t set[CXPI_SET_LENGTH_TWO + 1]; /* one more, so that a longer file is seen to be */
+    if (path == NULL) {
+        return cxpi_read(set_in_flash, sizeof set_in_flash, plan, sizeof plan);
+    }
+    FILE *file = fopen(path, "rb");
+    if (file == NULL) {
+        return CXPI_WRONG_SIZE;
+    }
+    size_t length = fread(set, 1, sizeof set, file);
+    fclose(file);
+    return cxpi_read(set, length, plan, sizeof plan);
+}
+
+int main(int count, char **arguments) {
+    uint32_t refusal = read_set(count > 1 ? arguments[1] : NULL);
+    if (refusal != CXPI_DONE) {
+        printf("set %u\n", (unsigned)refusal);
+        return 1;
+    }
+    cxpi_master_power_on(master, sizeof master);
+    for (unsigned node = 0; node < node_count(); node++) {
+        cxpi_node_power_on(nodes[node], sizeof nodes[node]);
+    }
+    main_loop();
+    return 0;
+}

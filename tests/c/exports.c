@@ -1,0 +1,972 @@
+/* Tests each export on right and wrong input, by expectations written by hand from document 01 and include/cxpi.h.
+ *
+ * Every buffer is lent between guard bytes. Each case says what the call returns and which bytes it changes; all others must stay.
+ *
+ * Compile, product:   gcc -std=c11 -O2 -Wall -Wextra -Werror -pedantic -Iinclude tests/c/exports.c libcxpi.a -o exports
+ * Compile, reference: gcc -std=c11 -O2 -Wall -Wextra -Werror -pedantic -DCXPI_REFERENCE -Iinclude -Itests/independent tests/c/exports.c
+ *                     tests/independent/reference_packed.c tests/independent/reference.c -o exports
+ * Run:                ./exports examples/set-t/plan.set */
+#include <stdio.h>
+#include <stdlib.h>
+
+#include "lent.h"
+#include "set_t.h"
+#include "subject.h"
+
+/* Counting */
+
+static unsigned checks, failures, checks_of_group, failures_of_group;
+
+static void check(bool right, const char *what) {
+    checks_of_group++;
+    if (!right) {
+        failures_of_group++;
+        printf("  wrong: %s\n", what);
+    }
+}
+
+static void end_group(const char *name) {
+    printf("%-28s %6u checks, %u wrong\n", name, checks_of_group, failures_of_group);
+    checks += checks_of_group;
+    failures += failures_of_group;
+    checks_of_group = failures_of_group = 0;
+}
+
+/* Edits of bytes, by which cases are told */
+
+typedef struct {
+    size_t offset; /* END after the last */
+    uint8_t value;
+} edit;
+
+#define END SIZE_MAX
+#define EDITS(...) ((const edit[]){__VA_ARGS__, {END, 0}})
+#define NONE ((const edit[]){{END, 0}})
+#define BYTES(...) (const uint8_t[]){__VA_ARGS__}, sizeof((const uint8_t[]){__VA_ARGS__})
+
+static void apply(const edit *edits, uint8_t *bytes) {
+    for (; edits->offset != END; edits++) {
+        bytes[edits->offset] = edits->value;
+    }
+}
+
+/* Reading */
+
+static lent lent_set, wanted_set, lent_plan, wanted_plan, lent_state, wanted_state, lent_event, wanted_event, lent_answer,
+    wanted_answer;
+
+static void mend_checks(uint8_t *set, size_t length) {
+    for (size_t block = 0; block + 512 <= length; block += 512) {
+        unsigned long sum = 0;
+        for (size_t offset = 0; offset < 510; offset++) {
+            sum += (offset + 1) * set[block + offset];
+        }
+        set[block + 510] = (uint8_t)(sum % 65521 >> 8);
+        set[block + 511] = (uint8_t)(sum % 65521);
+    }
+}
+
+/* Reads into a plan buffer of that length; the record is null where the read is refused. */
+static void expect_read(const char *what, const uint8_t *set, size_t length, size_t room, uint32_t result, const uint8_t *record) {
+    lent_fill(&lent_set, set, length);
+    lent_paint(&lent_plan, room);
+    wanted_set = lent_set;
+    wanted_plan = lent_plan;
+    if (record != NULL) {
+        memcpy(lent_bytes(&wanted_plan), record, CXPI_PLAN_LENGTH);
+    }
+    check(cxpi_read(lent_bytes(&lent_set), length, lent_bytes(&lent_plan), room) == result, what);
+    check(lent_same(&lent_set, &wanted_set) && lent_same(&lent_plan, &wanted_plan), what);
+}
+
+/* Reads set T with edits and its checks mended; a result of 0 comes with plan T with edits. */
+static void expect_mended(const char *what, const edit *edits, uint32_t result, const edit *record_edits) {
+    uint8_t set[CXPI_SET_LENGTH_ONE];
+    uint8_t record[CXPI_PLAN_LENGTH];
+    memcpy(set, set_t, sizeof set);
+    memcpy(record, plan_t, sizeof record);
+    apply(edits, set);
+    apply(record_edits, record);
+    mend_checks(set, sizeof set);
+    expect_read(what, set, sizeof set, CXPI_PLAN_LENGTH, result, result == 0 ? record : NULL);
+}
+
+static void expect_refused_set(const char *what, const edit *edits, uint32_t result) {
+    expect_mended(what, edits, result, NONE);
+}
+
+static void test_read_lengths(void) {
+    static uint8_t longer[LENT_ROOM];
+    memcpy(longer, set_t, sizeof set_t);
+    expect_read("edge 1: T reads", set_t, sizeof set_t, CXPI_PLAN_LENGTH, 0, plan_t);
+    expect_read("T reads into a longer buffer", set_t, sizeof set_t, CXPI_PLAN_LENGTH + 40, 0, plan_t);
+    expect_read("edge 3: 512 bytes", longer, 512, CXPI_PLAN_LENGTH, 1, NULL);
+    for (size_t length = 0; length <= LENT_ROOM; length++) {
+        if (length != 1024 && length != 1536) {
+            expect_read("wrong length", longer, length, CXPI_PLAN_LENGTH, 1, NULL);
+        }
+    }
+    expect_read("third block of zeros", longer, 1536, CXPI_PLAN_LENGTH, 3, NULL);
+    for (size_t room = 0; room < CXPI_PLAN_LENGTH; room++) {
+        expect_read("short plan buffer", set_t, sizeof set_t, room, 10, NULL);
+    }
+    expect_read("short plan buffer, wrong length", longer, 1023, 0, 1, NULL);
+    end_group("read: lengths");
+}
+
+static void test_read_bytes(void) {
+    uint8_t set[CXPI_SET_LENGTH_ONE];
+    for (size_t offset = 0; offset < sizeof set; offset++) {
+        memcpy(set, set_t, sizeof set);
+        set[offset]++;
+        expect_read("a changed byte, check not mended", set, sizeof set, CXPI_PLAN_LENGTH, 2, NULL);
+        set[offset] ^= 0x80;
+        expect_read("a changed byte, check not mended", set, sizeof set, 0, 2, NULL);
+    }
+    for (size_t offset = 0; offset < sizeof set; offset++) {
+        size_t in_block = offset % 512;
+        bool filler = offset < 512 ? in_block == 5 || (in_block >= 20 && in_block < 32) || (in_block >= 36 && in_block < 510)
+                                   : (in_block >= 5 && in_block < 8) || (in_block >= 12 && in_block < 510);
+        if (filler) {
+            expect_refused_set("filler 1", EDITS({offset, 1}), 9);
+            expect_refused_set("filler 255", EDITS({offset, 255}), 9);
+        }
+    }
+    end_group("read: checks and filler");
+}
+
+static void test_read_plan_block(void) {
+    expect_refused_set("plan block's byte 0", EDITS({0, 0x4D}), 3);
+    expect_refused_set("plan block's byte 1", EDITS({1, 0}), 3);
+    expect_refused_set("message block's byte 0", EDITS({512, 0x50}), 3);
+    expect_refused_set("message block's byte 1", EDITS({513, 2}), 3);
+    expect_refused_set("revision 0", EDITS({3, 0}, {515, 0}), 4);
+    expect_refused_set("edge 2: block 1 of revision 8", EDITS({515, 8}), 4);
+    expect_refused_set("block 1 of revision 263", EDITS({514, 1}), 4);
+    expect_refused_set("block 1 of revision 0", EDITS({515, 0}), 4);
+    expect_mended("revision 65,535", EDITS({2, 255}, {3, 255}, {514, 255}, {515, 255}), 0, EDITS({0, 255}, {1, 255}));
+    for (size_t time = 0; time < 7; time++) {
+        size_t at = 6 + 2 * time;
+        bool of_its_own = time != 1 && time != 2;
+        expect_refused_set("time 0", EDITS({at + 1, 0}), 5);
+        expect_refused_set("time 30,001", EDITS({at, 0x75}, {at + 1, 0x31}), 5);
+        expect_refused_set("time 65,535", EDITS({at, 0xff}, {at + 1, 0xff}), 5);
+        if (of_its_own) {
+            expect_mended("time 30,000", EDITS({at, 0x75}, {at + 1, 0x30}), 0, EDITS({at - 1, 0x75}, {at, 0x30}));
+            expect_mended("time 1", EDITS({at + 1, 1}), 0, EDITS({at, 1}));
+        }
+    }
+    expect_mended("S 30,000", EDITS({10, 0x75}, {11, 0x30}), 0, EDITS({9, 0x75}, {10, 0x30}));
+    expect_mended("edge 4: S 2, D 2", EDITS({11, 2}), 0, EDITS({10, 2}));
+    expect_refused_set("edge 5: S 1, D 2", EDITS({11, 1}), 5);
+    expect_refused_set("S 3, D 256", EDITS({8, 1}, {9, 0}), 5);
+    end_group("read: heads and times");
+}
+
+static void test_read_nodes(void) {
+    expect_refused_set("no node", EDITS({4, 0}), 6);
+    expect_refused_set("17 nodes", EDITS({4, 17}), 6);
+    expect_refused_set("255 nodes", EDITS({4, 255}), 6);
+    expect_refused_set("address 0", EDITS({32, 0}), 6);
+    expect_refused_set("address 126", EDITS({32, 126}), 6);
+    expect_refused_set("class 0", EDITS({33, 0}), 6);
+    expect_refused_set("class 4", EDITS({33, 4}), 6);
+    expect_refused_set("method 2", EDITS({34, 2}), 6);
+    expect_refused_set("fourth byte of an entry", EDITS({35, 1}), 6);
+    expect_refused_set("second node of zeros", EDITS({4, 2}), 6);
+    expect_refused_set("the same address twice", EDITS({4, 2}, {36, 0x41}, {37, 1}, {516, 2}, {524, 17}, {525, 1}), 6);
+    expect_mended("two nodes", EDITS({4, 2}, {36, 125}, {37, 3}, {516, 2}, {524, 127}, {525, 1}, {526, 255}), 0,
+                  EDITS({2, 2}, {23, 125}, {24, 3}, {4, 2}, {87, 127}, {88, 1}, {89, 255}));
+    expect_mended("address 1, class 2, method 0", EDITS({32, 1}, {33, 2}, {34, 0}), 0, EDITS({19, 1}, {20, 2}, {21, 0}));
+    expect_refused_set("a node that publishes nothing", EDITS({4, 2}, {36, 125}, {37, 3}), 8);
+    end_group("read: nodes");
+}
+
+static void test_read_rows(void) {
+    expect_refused_set("no row", EDITS({516, 0}), 7);
+    expect_refused_set("101 rows", EDITS({516, 101}), 7);
+    expect_refused_set("255 rows", EDITS({516, 255}), 7);
+    expect_refused_set("ReqId 0", EDITS({520, 0}), 7);
+    expect_refused_set("ReqId 128", EDITS({520, 128}), 7);
+    expect_refused_set("publisher N", EDITS({521, 1}), 7);
+    expect_refused_set("publisher 254", EDITS({521, 254}), 7);
+    expect_refused_set("count byte 2", EDITS({523, 2}), 7);
+    expect_refused_set("second row of zeros", EDITS({516, 2}), 7);
+    expect_refused_set("the same ReqId twice", EDITS({516, 2}, {524, 16}), 7);
+    expect_refused_set("a falling ReqId", EDITS({516, 2}, {524, 15}), 7);
+    expect_mended("ReqId 1, length 255, no count", EDITS({520, 1}, {522, 255}, {523, 0}), 0, EDITS({83, 1}, {85, 255}, {86, 0}));
+    expect_mended("a master's row", EDITS({516, 2}, {524, 31}, {525, 255}), 0, EDITS({4, 2}, {87, 31}, {88, 255}));
+    expect_refused_set("only the master's row", EDITS({521, 255}), 8);
+    end_group("read: rows");
+}
+
+static void test_read_order(void) {
+    uint8_t set[CXPI_SET_LENGTH_ONE];
+    memcpy(set, set_t, sizeof set);
+    apply(EDITS({0, 0}, {1023, 0}), set);
+    expect_read("2 in the last block before 3 in the first", set, sizeof set, 0, 2, NULL);
+    expect_refused_set("3 in the last block before 4", EDITS({3, 0}, {513, 0}), 3);
+    expect_refused_set("4 before 5", EDITS({515, 8}, {7, 0}), 4);
+    expect_refused_set("5 before 6", EDITS({19, 0}, {4, 0}), 5);
+    expect_refused_set("6 before 7", EDITS({35, 1}, {516, 0}), 6);
+    expect_refused_set("7 before 8", EDITS({521, 255}, {522, 0}, {523, 2}), 7);
+    expect_refused_set("8 before 9", EDITS({521, 255}, {5, 1}), 8);
+    memcpy(set, set_t, sizeof set);
+    apply(EDITS({5, 1}), set);
+    mend_checks(set, sizeof set);
+    expect_read("9 before 10", set, sizeof set, 0, 9, NULL);
+    end_group("read: order");
+}
+
+/* Writing */
+
+static void expect_write(const char *what, const uint8_t *plan, size_t length, size_t room, uint32_t result, const uint8_t *set) {
+    lent_fill(&lent_plan, plan, length);
+    lent_paint(&lent_set, room);
+    wanted_plan = lent_plan;
+    wanted_set = lent_set;
+    if (set != NULL) {
+        memcpy(lent_bytes(&wanted_set), set, result);
+    }
+    check(cxpi_write(lent_bytes(&lent_plan), length, lent_bytes(&lent_set), room) == result, what);
+    check(lent_same(&lent_plan, &wanted_plan) && lent_same(&lent_set, &wanted_set), what);
+}
+
+static void test_write_lengths(void) {
+    uint8_t filled[CXPI_PLAN_LENGTH];
+    static uint8_t longer[LENT_ROOM];
+    memcpy(filled, plan_t, sizeof filled);
+    memset(filled + 23, 0xEE, 60);
+    memset(filled + 87, 0xEE, 504);
+    memcpy(longer, plan_t, sizeof plan_t);
+    expect_write("T is written", plan_t, sizeof plan_t, CXPI_SET_LENGTH_ONE, CXPI_SET_LENGTH_ONE, set_t);
+    expect_write("T is written into a longer buffer", plan_t, sizeof plan_t, 2000, CXPI_SET_LENGTH_ONE, set_t);
+    expect_write("unused places are ignored", filled, sizeof filled, CXPI_SET_LENGTH_ONE, CXPI_SET_LENGTH_ONE, set_t);
+    for (size_t room = 0; room < CXPI_SET_LENGTH_ONE; room++) {
+        expect_write("short set buffer", plan_t, sizeof plan_t, room, 10, NULL);
+    }
+    for (size_t length = 0; length <= 1200; length++) {
+        if (length != CXPI_PLAN_LENGTH) {
+            expect_write("wrong length of a plan", longer, length, CXPI_SET_LENGTH_ONE, 1, NULL);
+        }
+    }
+    expect_write("1 before 10", longer, 590, 0, 1, NULL);
+    end_group("write: lengths");
+}
+
+/* Plan T with edits that break a rule, for all exports that judge a plan. */
+typedef struct {
+    const char *what;
+    const edit *edits;
+    uint32_t refusal;
+} broken_plan;
+
+static const broken_plan broken_plans[] = {
+    {"revision 0", EDITS({1, 0}), 4},
+    {"W 0", EDITS({6, 0}), 5},
+    {"D 0", EDITS({8, 0}), 5},
+    {"S 0", EDITS({10, 0}), 5},
+    {"E 0", EDITS({12, 0}), 5},
+    {"R 0", EDITS({14, 0}), 5},
+    {"P 0", EDITS({16, 0}), 5},
+    {"C 0", EDITS({18, 0}), 5},
+    {"W 30,001", EDITS({5, 0x75}, {6, 0x31}), 5},
+    {"C 65,535", EDITS({17, 0xff}, {18, 0xff}), 5},
+    {"S 1, D 2", EDITS({10, 1}), 5},
+    {"no node", EDITS({2, 0}), 6},
+    {"17 nodes", EDITS({2, 17}), 6},
+    {"255 nodes", EDITS({2, 255}), 6},
+    {"address 0", EDITS({19, 0}), 6},
+    {"address 126", EDITS({19, 126}), 6},
+    {"class 0", EDITS({20, 0}), 6},
+    {"class 4", EDITS({20, 4}), 6},
+    {"method 2", EDITS({21, 2}), 6},
+    {"fourth byte of an entry", EDITS({22, 1}), 6},
+    {"the same address twice", EDITS({2, 2}, {23, 0x41}, {24, 1}), 6},
+    {"no row", EDITS({4, 0}), 7},
+    {"128 rows", EDITS({4, 128}), 7},
+    {"257 rows", EDITS({3, 1}), 7},
+    {"65,535 rows", EDITS({3, 255}, {4, 255}), 7},
+    {"ReqId 0", EDITS({83, 0}), 7},
+    {"ReqId 128", EDITS({83, 128}), 7},
+    {"publisher N", EDITS({84, 1}), 7},
+    {"count byte 2", EDITS({86, 2}), 7},
+    {"second row of zeros", EDITS({4, 2}), 7},
+    {"the same ReqId twice", EDITS({4, 2}, {87, 16}), 7},
+    {"a silent node", EDITS({84, 255}), 8},
+    {"a silent second node", EDITS({2, 2}, {23, 1}, {24, 1}), 8},
+    {"4 before 5", EDITS({1, 0}, {6, 0}), 4},
+    {"5 before 6", EDITS({6, 0}, {2, 0}), 5},
+    {"6 before 7", EDITS({20, 0}, {83, 0}), 6},
+    {"7 before 8", EDITS({84, 255}, {86, 2}), 7},
+};
+
+enum { BROKEN_PLANS = sizeof broken_plans / sizeof broken_plans[0] };
+
+static void break_plan(const broken_plan *broken, uint8_t *plan) {
+    memcpy(plan, plan_t, CXPI_PLAN_LENGTH);
+    apply(broken->edits, plan);
+}
+
+static void test_write_refusals(void) {
+    uint8_t plan[CXPI_PLAN_LENGTH];
+    for (size_t place = 0; place < BROKEN_PLANS; place++) {
+        const broken_plan *broken = &broken_plans[place];
+        break_plan(broken, plan);
+        expect_write(broken->what, plan, sizeof plan, 2000, broken->refusal, NULL);
+        expect_write(broken->what, plan, sizeof plan, 0, broken->refusal, NULL);
+    }
+    end_group("write: refusals");
+}
+
+/* Plan T with that many rows, ReqIds from 1 on, all of node 0 without counts; and the set of it by hand. */
+static void make_rows(unsigned rows, uint8_t *plan, uint8_t *set) {
+    memcpy(plan, plan_t, CXPI_PLAN_LENGTH);
+    memset(set, 0, CXPI_SET_LENGTH_TWO);
+    memcpy(set, set_t, 520);
+    plan[4] = (uint8_t)rows;
+    set[516] = (uint8_t)(rows > 100 ? 100 : rows);
+    if (rows > 100) {
+        memcpy(set + 1024, set_t + 512, 8);
+        set[1028] = (uint8_t)(rows - 100);
+    }
+    for (unsigned row = 0; row < rows; row++) {
+        uint8_t bytes[4] = {(uint8_t)(row + 1), 0, (uint8_t)(2 * row), 0};
+        memcpy(plan + 83 + 4 * row, bytes, 4);
+        memcpy(set + (row < 100 ? 520 + 4 * row : 1032 + 4 * (row - 100)), bytes, 4);
+    }
+    mend_checks(set, rows > 100 ? CXPI_SET_LENGTH_TWO : CXPI_SET_LENGTH_ONE);
+}
+
+static void expect_damaged_two(const char *what, const edit *edits, uint32_t result) {
+    uint8_t plan[CXPI_PLAN_LENGTH];
+    uint8_t set[CXPI_SET_LENGTH_TWO];
+    make_rows(110, plan, set);
+    apply(edits, set);
+    mend_checks(set, sizeof set);
+    expect_read(what, set, sizeof set, CXPI_PLAN_LENGTH, result, NULL);
+}
+
+static void test_two_blocks(void) {
+    uint8_t plan[CXPI_PLAN_LENGTH];
+    uint8_t set[CXPI_SET_LENGTH_TWO];
+    for (unsigned rows = 1; rows <= 127; rows++) {
+        uint32_t length = rows > 100 ? CXPI_SET_LENGTH_TWO : CXPI_SET_LENGTH_ONE;
+        make_rows(rows, plan, set);
+        memset(plan + 83 + 4 * rows, 0, 4 * (127 - rows));
+        expect_write("rows are written", plan, sizeof plan, length + 7, length, set);
+        expect_write("short by one", plan, sizeof plan, length - 1, 10, NULL);
+        expect_read("rows are read", set, length, CXPI_PLAN_LENGTH, 0, plan);
+    }
+    expect_damaged_two("head of block 2", EDITS({1024, 0x50}), 3);
+    expect_damaged_two("revision of block 2", EDITS({1027, 8}), 4);
+    expect_damaged_two("99 rows in the first", EDITS({516, 99}), 7);
+    expect_damaged_two("101 rows in the first", EDITS({516, 101}), 7);
+    expect_damaged_two("no row in the second", EDITS({1028, 0}), 7);
+    expect_damaged_two("28 rows in the second", EDITS({1028, 28}), 7);
+    expect_damaged_two("255 rows in the second", EDITS({1028, 255}), 7);
+    expect_damaged_two("ReqId not rising over blocks", EDITS({1032, 100}), 7);
+    expect_damaged_two("publisher in the second", EDITS({1033, 1}), 7);
+    expect_damaged_two("filler in the second", EDITS({1029, 1}), 9);
+    expect_damaged_two("filler behind the rows of the second", EDITS({1072, 1}), 9);
+    expect_damaged_two("last filler of the second", EDITS({1533, 1}), 9);
+    end_group("two message blocks");
+}
+
+/* Power-on */
+
+static void expect_power_on(const char *what, bool master, size_t room, uint32_t result, const uint8_t *state) {
+    size_t length = master ? CXPI_MASTER_LENGTH : CXPI_NODE_LENGTH;
+    lent_paint(&lent_state, room);
+    wanted_state = lent_state;
+    if (result == 0) {
+        memcpy(lent_bytes(&wanted_state), state, length);
+    }
+    uint32_t got = master ? cxpi_master_power_on(lent_bytes(&lent_state), room) : cxpi_node_power_on(lent_bytes(&lent_state), room);
+    check(got == result && lent_same(&lent_state, &wanted_state), what);
+}
+
+static void test_power_on(void) {
+    uint8_t master[CXPI_MASTER_LENGTH] = {2};
+    uint8_t node[CXPI_NODE_LENGTH] = {2};
+    memset(master + 57, 4, 128);
+    for (size_t room = 0; room < 250; room++) {
+        expect_power_on("master", true, room, room < CXPI_MASTER_LENGTH ? 10 : 0, master);
+        expect_power_on("node", false, room, room < CXPI_NODE_LENGTH ? 10 : 0, node);
+    }
+    end_group("power-on");
+}
+
+/* Steps: plan U has two nodes, 0 polled and 1 event-triggered. ReqId 16 is node 0's with a count, 17 node 1's without one, 32 the
+ * master's. Its times are W 10, D 2, S 3, E 4, R 5, P 6, C 2. */
+
+static uint8_t plan_u[CXPI_PLAN_LENGTH];
+
+static void make_plan_u(void) {
+    memcpy(plan_u, plan_t, sizeof plan_u);
+    apply(EDITS({2, 2}, {4, 3}, {18, 2}, {23, 0x42}, {24, 2}, {25, 0}), plan_u);
+    apply(EDITS({87, 17}, {88, 1}, {89, 0}, {90, 0}, {91, 32}, {92, 255}, {93, 1}, {94, 1}), plan_u);
+}
+
+/* A step as it is lent; the state's machine is the master, or a node of that number. */
+typedef struct {
+    const uint8_t *plan;
+    size_t plan_length;
+    bool master;
+    uint8_t number;
+    const uint8_t *state;
+    size_t state_length;
+    const uint8_t *event;
+    size_t event_length;
+    size_t answer_length;
+} call;
+
+static uint32_t make_call(const call *made) {
+    lent_fill(&lent_plan, made->plan, made->plan_length);
+    lent_fill(&lent_state, made->state, made->state_length);
+    lent_fill(&lent_event, made->event, made->event_length);
+    lent_paint(&lent_answer, made->answer_length);
+    wanted_plan = lent_plan;
+    wanted_state = lent_state;
+    wanted_event = lent_event;
+    wanted_answer = lent_answer;
+    if (made->master) {
+        return cxpi_master_step(lent_bytes(&lent_plan), made->plan_length, lent_bytes(&lent_state), made->state_length,
+                                lent_bytes(&lent_event), made->event_length, lent_bytes(&lent_answer), made->answer_length);
+    }
+    return cxpi_node_step(lent_bytes(&lent_plan), made->plan_length, made->number, lent_bytes(&lent_state), made->state_length,
+                          lent_bytes(&lent_event), made->event_length, lent_bytes(&lent_answer), made->answer_length);
+}
+
+static void expect_call(const char *what, const call *made, uint32_t result, const edit *changes, const edit *answer) {
+    uint32_t got = make_call(made);
+    apply(changes, lent_bytes(&wanted_state));
+    apply(answer, lent_bytes(&wanted_answer));
+    check(got == result, what);
+    check(lent_same(&lent_plan, &wanted_plan) && lent_same(&lent_state, &wanted_state) && lent_same(&lent_event, &wanted_event) &&
+              lent_same(&lent_answer, &wanted_answer),
+          what);
+}
+
+/* The master in Normal, Open, nothing held, no counts; before has what differs. */
+static const uint8_t *master_with(const edit *before) {
+    static uint8_t state[CXPI_MASTER_LENGTH];
+    memset(state, 0, sizeof state);
+    memset(state + 57, 4, 128);
+    apply(before, state);
+    return state;
+}
+
+/* Node 0 in Normal with all else clear; before has what differs. */
+static const uint8_t *node_with(const edit *before) {
+    static uint8_t state[CXPI_NODE_LENGTH];
+    memset(state, 0, sizeof state);
+    apply(before, state);
+    return state;
+}
+
+static call master_call(const edit *before, const uint8_t *event, size_t event_length) {
+    return (call){.plan = plan_u,
+                  .plan_length = CXPI_PLAN_LENGTH,
+                  .master = true,
+                  .state = master_with(before),
+                  .state_length = CXPI_MASTER_LENGTH,
+                  .event = event,
+                  .event_length = event_length,
+                  .answer_length = 2};
+}
+
+static call node_call(uint8_t number, const edit *before, const uint8_t *event, size_t event_length) {
+    return (call){.plan = plan_u,
+                  .plan_length = CXPI_PLAN_LENGTH,
+                  .number = number,
+                  .state = node_with(before),
+                  .state_length = CXPI_NODE_LENGTH,
+                  .event = event,
+                  .event_length = event_length,
+                  .answer_length = 4};
+}
+
+static void master_does(const char *what, const edit *before, const uint8_t *event, size_t event_length, const edit *changes,
+                        uint8_t command, uint8_t lost) {
+    call made = master_call(before, event, event_length);
+    expect_call(what, &made, 0, changes, EDITS({0, command}, {1, lost}));
+    made.answer_length = 50;
+    expect_call(what, &made, 0, changes, EDITS({0, command}, {1, lost}));
+}
+
+static void master_refuses(const char *what, const edit *before, const uint8_t *event, size_t event_length, uint32_t result) {
+    call made = master_call(before, event, event_length);
+    expect_call(what, &made, result, NONE, NONE);
+}
+
+/* 13 and 14: the state changes, the answer does not. */
+static void master_drops(const char *what, const edit *before, const uint8_t *event, size_t event_length, uint32_t result,
+                         const edit *changes) {
+    call made = master_call(before, event, event_length);
+    expect_call(what, &made, result, changes, NONE);
+}
+
+static void node_does(const char *what, const edit *before, const uint8_t *event, size_t event_length, const edit *changes,
+                      uint8_t command) {
+    call made = node_call(0, before, event, event_length);
+    expect_call(what, &made, 0, changes, EDITS({0, command}, {1, 0}, {2, 0}, {3, 0}));
+}
+
+static void node_answers(const char *what, uint8_t number, const edit *before, const uint8_t *event, size_t event_length,
+                         const edit *changes, uint8_t permission, uint8_t wake, uint8_t count) {
+    call made = node_call(number, before, event, event_length);
+    expect_call(what, &made, 0, changes, EDITS({0, 2}, {1, permission}, {2, wake}, {3, count}));
+    made.answer_length = 50;
+    expect_call(what, &made, 0, changes, EDITS({0, 2}, {1, permission}, {2, wake}, {3, count}));
+}
+
+static void node_refuses(const char *what, uint8_t number, const edit *before, const uint8_t *event, size_t event_length,
+                         uint32_t result) {
+    call made = node_call(number, before, event, event_length);
+    expect_call(what, &made, result, NONE, NONE);
+}
+
+/* Offsets of the packed states, as in include/cxpi.h */
+
+enum { M_STATE, M_PHASE, M_OWN, M_DELAY = 4, M_TICK = 8, M_HELD_0, M_AGE_0 = 11, M_HELD_1, M_AGE_1 = 14, M_HELD_2, M_COUNTS = 57 };
+
+enum { N_STATE, N_PERMISSION, N_ERROR, N_WAKE, N_HEARD, N_CALLER, N_QUIET = 7, N_RUNS, N_DELAY = 10, N_STANDBY = 14, N_COUNTS };
+
+#define TICK BYTES(0)
+#define ANSWER(reqid, result, length, count, permission, wake) BYTES(1, reqid, 0, result, 0, length, count, permission, wake)
+#define PULSE BYTES(2)
+#define WAKE BYTES(3)
+#define PERMIT(value) BYTES(4, value)
+#define SLEEP BYTES(5)
+#define RESULT(sent) BYTES(6, sent)
+
+static void test_master_tick(void) {
+    master_does("tick in Normal", NONE, TICK, EDITS({M_TICK, 1}), 0, 0);
+    master_does("tick in Sleep", EDITS({M_STATE, 2}), TICK, EDITS({M_TICK, 1}), 0, 0);
+    master_does("tick number carries", EDITS({6, 1}, {7, 255}, {8, 255}), TICK, EDITS({6, 2}, {7, 0}, {8, 0}), 0, 0);
+    master_does("tick number returns to 0", EDITS({5, 255}, {6, 255}, {7, 255}, {8, 255}), TICK, EDITS({5, 0}, {6, 0}, {7, 0}, {8, 0}),
+                0, 0);
+    master_does("ages go up", EDITS({M_HELD_0, 1}, {M_HELD_1, 1}, {M_AGE_1, 9}), TICK, EDITS({M_TICK, 1}, {M_AGE_0, 1}, {M_AGE_1, 10}),
+                0, 0);
+    master_does("an age above W is let go, no call-back", EDITS({M_PHASE, 1}, {M_HELD_0, 1}, {M_AGE_0, 10}), TICK,
+                EDITS({M_TICK, 1}, {M_HELD_0, 0}, {M_AGE_0, 0}), 0, 0);
+    master_does("held ages also outside Normal", EDITS({M_STATE, 2}, {M_HELD_0, 1}, {M_AGE_0, 3}), TICK,
+                EDITS({M_TICK, 1}, {M_AGE_0, 4}), 0, 0);
+    master_does("Standby, first tick", EDITS({M_STATE, 1}), TICK, EDITS({M_TICK, 1}, {M_DELAY, 1}), 0, 0);
+    master_does("Standby, tick C",
+                EDITS({M_STATE, 1}, {M_DELAY, 1}, {M_COUNTS, 0}, {M_COUNTS + 16, 3}, {M_COUNTS + 127, 1}, {M_HELD_1, 1}), TICK,
+                EDITS({M_STATE, 0}, {M_DELAY, 0}, {M_TICK, 1}, {M_COUNTS, 4}, {M_COUNTS + 16, 4}, {M_COUNTS + 127, 4}, {M_AGE_1, 1}), 1,
+                0);
+    master_does("Closing, first tick", EDITS({M_PHASE, 3}, {M_HELD_0, 1}), TICK, EDITS({M_TICK, 1}, {M_DELAY, 1}, {M_AGE_0, 1}), 0, 0);
+    master_does("Closing, tick D", EDITS({M_PHASE, 3}, {M_DELAY, 1}, {M_HELD_0, 1}, {M_AGE_0, 3}, {M_HELD_1, 1}, {M_COUNTS + 16, 2}),
+                TICK, EDITS({M_STATE, 2}, {M_PHASE, 0}, {M_DELAY, 0}, {M_TICK, 1}, {M_HELD_0, 0}, {M_AGE_0, 0}, {M_HELD_1, 0}), 2, 0);
+    end_group("master: tick");
+}
+
+static void test_master_answer(void) {
+    master_does("permission is held", NONE, ANSWER(16, 0, 2, 3, 1, 0), EDITS({M_HELD_0, 1}, {M_COUNTS + 16, 3}), 0, 0);
+    master_does("age starts anew", EDITS({M_HELD_1, 1}, {M_AGE_1, 7}), ANSWER(17, 0, 0, 3, 1, 0), EDITS({M_AGE_1, 0}), 0, 0);
+    master_does("a row without a count stores none", EDITS({M_COUNTS + 17, 1}), ANSWER(17, 0, 0, 3, 1, 0), EDITS({M_HELD_1, 1}), 0, 0);
+    master_does("edge 8: last 3, count 0", EDITS({M_COUNTS + 16, 3}), ANSWER(16, 0, 2, 0, 1, 0),
+                EDITS({M_HELD_0, 1}, {M_COUNTS + 16, 0}), 0, 0);
+    master_does("edge 9: last 1, count 1", EDITS({M_COUNTS + 16, 1}), ANSWER(16, 0, 2, 1, 1, 0), EDITS({M_HELD_0, 1}), 0, 3);
+    master_does("last 3, count 2", EDITS({M_COUNTS + 16, 3}), ANSWER(16, 0, 2, 2, 1, 0), EDITS({M_HELD_0, 1}, {M_COUNTS + 16, 2}), 0,
+                2);
+    master_does("last 0, count 2", EDITS({M_COUNTS + 16, 0}), ANSWER(16, 0, 2, 2, 1, 0), EDITS({M_HELD_0, 1}, {M_COUNTS + 16, 2}), 0,
+                1);
+    master_does("edge 10: wake and permission bits both 1", EDITS({M_PHASE, 1}, {M_HELD_0, 1}, {M_AGE_0, 2}, {M_HELD_1, 1}),
+                ANSWER(16, 0, 2, 0, 1, 1), EDITS({M_PHASE, 2}, {M_HELD_0, 0}, {M_AGE_0, 0}, {M_HELD_1, 0}, {M_COUNTS + 16, 0}), 0, 0);
+    master_does("edge 11: refusal in Closing", EDITS({M_PHASE, 3}, {M_DELAY, 1}, {M_HELD_0, 1}, {M_AGE_0, 2}, {M_HELD_1, 1}),
+                ANSWER(17, 0, 0, 0, 0, 0), EDITS({M_PHASE, 0}, {M_DELAY, 0}, {M_HELD_1, 0}), 0, 0);
+    master_does("permission does not call back", EDITS({M_PHASE, 3}, {M_DELAY, 1}), ANSWER(17, 0, 0, 0, 1, 0), EDITS({M_HELD_1, 1}), 0,
+                0);
+    master_drops("result 1", EDITS({M_PHASE, 1}, {M_HELD_0, 1}, {M_AGE_0, 5}, {M_HELD_1, 1}), ANSWER(16, 1, 2, 0, 1, 1), 13,
+                 EDITS({M_PHASE, 2}, {M_HELD_0, 0}, {M_AGE_0, 0}));
+    master_drops("result 256", EDITS({M_HELD_0, 1}), BYTES(1, 16, 1, 0, 0, 2, 0, 1, 0), 13, EDITS({M_HELD_0, 0}));
+    master_drops("length 3", EDITS({M_PHASE, 3}, {M_DELAY, 1}, {M_HELD_0, 1}), ANSWER(16, 0, 3, 0, 1, 0), 14,
+                 EDITS({M_PHASE, 0}, {M_DELAY, 0}, {M_HELD_0, 0}));
+    master_drops("length 258", EDITS({M_HELD_0, 1}), BYTES(1, 16, 0, 0, 1, 2, 0, 1, 0), 14, EDITS({M_HELD_0, 0}));
+    master_drops("13 before 14", NONE, ANSWER(16, 1, 3, 0, 1, 0), 13, NONE);
+    master_refuses("a master's row", EDITS({M_HELD_0, 1}), ANSWER(32, 1, 9, 0, 1, 0), 12);
+    master_refuses("ReqId not in the plan", EDITS({M_PHASE, 1}), ANSWER(18, 1, 9, 0, 1, 0), 12);
+    master_refuses("ReqId 0", NONE, ANSWER(0, 0, 0, 0, 1, 0), 12);
+    master_refuses("in Standby", EDITS({M_STATE, 1}), ANSWER(18, 0, 2, 0, 1, 0), 16);
+    master_refuses("in Sleep", EDITS({M_STATE, 2}), ANSWER(16, 0, 2, 0, 1, 0), 16);
+    end_group("master: answer");
+}
+
+/* Edge 7: a tick on the state of edge 6, then the sleep ask. */
+static void test_late_sleep_ask(void) {
+    uint8_t state[CXPI_MASTER_LENGTH];
+    call made = master_call(EDITS({M_OWN, 1}, {M_HELD_0, 1}, {M_AGE_0, 10}, {M_HELD_1, 1}), TICK);
+    check(make_call(&made) == 0, "edge 7: the tick");
+    memcpy(state, lent_bytes(&lent_state), sizeof state);
+    made = master_call(NONE, SLEEP);
+    made.state = state;
+    expect_call("edge 7: the same after one more tick", &made, 20, NONE, NONE);
+}
+
+static void test_master_others(void) {
+    for (uint8_t kind = 2; kind <= 3; kind++) {
+        master_does("wake-up in Sleep", EDITS({M_STATE, 2}, {M_HELD_0, 1}), BYTES(kind), EDITS({M_STATE, 1}), 0, 0);
+        master_does("wake-up in Standby", EDITS({M_STATE, 1}, {M_DELAY, 1}, {M_HELD_0, 1}), BYTES(kind), NONE, 0, 0);
+        master_does("wake-up in Sending", EDITS({M_PHASE, 1}, {M_HELD_0, 1}, {M_AGE_0, 4}), BYTES(kind),
+                    EDITS({M_PHASE, 2}, {M_HELD_0, 0}, {M_AGE_0, 0}), 0, 0);
+        master_does("wake-up in Closing", EDITS({M_PHASE, 3}, {M_DELAY, 1}), BYTES(kind), EDITS({M_PHASE, 0}, {M_DELAY, 0}), 0, 0);
+        master_does("wake-up in Withdrawn", EDITS({M_PHASE, 2}, {M_HELD_1, 1}), BYTES(kind), EDITS({M_HELD_1, 0}), 0, 0);
+    }
+    master_does("permission yes", EDITS({M_STATE, 2}), PERMIT(1), EDITS({M_OWN, 1}), 0, 0);
+    master_does("permission yes in Sending", EDITS({M_PHASE, 1}), PERMIT(1), EDITS({M_OWN, 1}), 0, 0);
+    master_does("permission no in Sending", EDITS({M_PHASE, 1}, {M_OWN, 1}, {M_HELD_0, 1}), PERMIT(0), EDITS({M_OWN, 0}, {M_PHASE, 2}),
+                0, 0);
+    master_does("permission no in Closing, no before", EDITS({M_PHASE, 3}, {M_DELAY, 1}), PERMIT(0), EDITS({M_PHASE, 0}, {M_DELAY, 0}),
+                0, 0);
+    master_does("edge 6: sleep ask at age W", EDITS({M_OWN, 1}, {M_HELD_0, 1}, {M_AGE_0, 10}, {M_HELD_1, 1}), SLEEP,
+                EDITS({M_PHASE, 1}), 3, 0);
+    test_late_sleep_ask();
+    master_refuses("node 1 not held", EDITS({M_OWN, 1}, {M_HELD_0, 1}), SLEEP, 20 | 1 << 8);
+    master_refuses("19 before 20", NONE, SLEEP, 19);
+    master_refuses("18 before 19, Sending", EDITS({M_PHASE, 1}), SLEEP, 18);
+    master_refuses("18, Withdrawn", EDITS({M_PHASE, 2}, {M_OWN, 1}, {M_HELD_0, 1}, {M_HELD_1, 1}), SLEEP, 18);
+    master_refuses("18, Closing", EDITS({M_PHASE, 3}, {M_OWN, 1}), SLEEP, 18);
+    master_refuses("sleep ask in Standby", EDITS({M_STATE, 1}), SLEEP, 16);
+    master_does("sent", EDITS({M_PHASE, 1}), RESULT(1), EDITS({M_PHASE, 3}), 0, 0);
+    master_does("failed", EDITS({M_PHASE, 1}), RESULT(0), EDITS({M_PHASE, 0}), 0, 0);
+    master_does("sent after a call-back", EDITS({M_PHASE, 2}), RESULT(1), EDITS({M_PHASE, 0}), 0, 0);
+    master_does("failed after a call-back", EDITS({M_PHASE, 2}), RESULT(0), EDITS({M_PHASE, 0}), 0, 0);
+    master_refuses("result in Open", NONE, RESULT(1), 17);
+    master_refuses("result in Closing", EDITS({M_PHASE, 3}), RESULT(0), 17);
+    master_refuses("result in Sleep", EDITS({M_STATE, 2}), RESULT(1), 16);
+    end_group("master: other events");
+}
+
+/* Length of each kind of event, by include/cxpi.h. */
+static const size_t master_event_lengths[] = {1, 9, 1, 1, 2, 1, 2};
+static const size_t node_event_lengths[] = {2, 1, 1, 2, 1, 2, 2};
+
+static void test_no_events(void) {
+    uint8_t event[32] = {0};
+    for (unsigned kind = 0; kind < 256; kind++) {
+        for (size_t length = 0; length <= 12; length++) {
+            event[0] = (uint8_t)kind;
+            if (kind > 6 || length != master_event_lengths[kind]) {
+                master_refuses("wrong kind or length", NONE, event, length, 15);
+            }
+            if (kind > 6 || length != node_event_lengths[kind]) {
+                node_refuses("wrong kind or length", 0, NONE, event, length, 15);
+            }
+        }
+    }
+    for (unsigned value = 2; value < 256; value++) {
+        uint8_t wrong = (uint8_t)value;
+        master_refuses("permission above 1", EDITS({M_STATE, 2}), PERMIT(wrong), 15);
+        master_refuses("result above 1, before 16", EDITS({M_STATE, 2}), RESULT(wrong), 15);
+        master_refuses("answer's permission above 1", NONE, ANSWER(16, 0, 2, 0, wrong, 0), 15);
+        master_refuses("answer's wake above 1, before 13", NONE, ANSWER(16, 1, 2, 0, 0, wrong), 15);
+        node_refuses("clock above 1", 0, NONE, BYTES(0, wrong), 15);
+        node_refuses("permission above 1", 0, NONE, BYTES(3, wrong), 15);
+        if (value > 3) {
+            master_refuses("answer's count above 3", EDITS({M_STATE, 1}), ANSWER(16, 0, 2, wrong, 1, 0), 15);
+        }
+        if (value > 127) {
+            master_refuses("answer's ReqId above 127", EDITS({M_STATE, 2}), ANSWER(wrong, 0, 2, 0, 1, 0), 15);
+            node_refuses("request's ReqId above 127", 0, EDITS({N_STATE, 2}), BYTES(5, wrong), 15);
+            node_refuses("ask's ReqId above 127", 0, NONE, BYTES(6, wrong), 15);
+        }
+    }
+    end_group("no events");
+}
+
+/* Whether a tick is refused 11 from that state and otherwise done. */
+static void master_state_is(const char *what, bool right, const edit *before) {
+    call made = master_call(before, TICK);
+    if (right) {
+        check(make_call(&made) == 0, what);
+    } else {
+        expect_call(what, &made, 11, NONE, NONE);
+    }
+}
+
+static void node_state_is(const char *what, bool right, const edit *before) {
+    call made = node_call(0, before, BYTES(0, 1));
+    if (right) {
+        check(make_call(&made) == 0, what);
+    } else {
+        expect_call(what, &made, 11, NONE, NONE);
+    }
+}
+
+static void test_master_range(void) {
+    for (unsigned value = 0; value < 256; value++) {
+        uint8_t byte = (uint8_t)value;
+        master_state_is("state", value <= 2, EDITS({M_STATE, byte}));
+        master_state_is("phase in Normal", value <= 3, EDITS({M_PHASE, byte}));
+        master_state_is("phase in Standby", value == 0, EDITS({M_STATE, 1}, {M_PHASE, byte}));
+        master_state_is("phase in Sleep", value == 0, EDITS({M_STATE, 2}, {M_PHASE, byte}));
+        master_state_is("own permission", value <= 1, EDITS({M_OWN, byte}));
+        master_state_is("delay in Open", value == 0, EDITS({M_DELAY, byte}));
+        master_state_is("delay in Sending", value == 0, EDITS({M_PHASE, 1}, {M_DELAY, byte}));
+        master_state_is("delay in Withdrawn", value == 0, EDITS({M_PHASE, 2}, {M_DELAY, byte}));
+        master_state_is("delay in Sleep", value == 0, EDITS({M_STATE, 2}, {M_DELAY, byte}));
+        master_state_is("delay in Standby below C", value < 2, EDITS({M_STATE, 1}, {M_DELAY, byte}));
+        master_state_is("delay in Closing below D", value < 2, EDITS({M_PHASE, 3}, {M_DELAY, byte}));
+        master_state_is("high byte of the delay", value == 0, EDITS({M_STATE, 1}, {M_DELAY - 1, byte}));
+        master_state_is("tick number", true, EDITS({5, byte}, {6, byte}, {7, byte}, {8, byte}));
+        for (size_t node = 0; node < 16; node++) {
+            size_t held = M_HELD_0 + 3 * node;
+            master_state_is("held", value == 0 || (value == 1 && node < 2), EDITS({held, byte}));
+            master_state_is("age of one not held", value == 0, EDITS({held + 2, byte}));
+            master_state_is("age of one held", value <= 10 && node < 2, EDITS({held, 1}, {held + 2, byte}));
+            master_state_is("high byte of the age", value == 0 && node < 2, EDITS({held, 1}, {held + 1, byte}));
+            master_state_is("held in Sleep", value <= 10 && node < 2, EDITS({M_STATE, 2}, {held, 1}, {held + 2, byte}));
+        }
+        for (size_t reqid = 0; reqid < 128; reqid++) {
+            master_state_is("last count", value <= 4, EDITS({M_COUNTS + reqid, byte}));
+        }
+    }
+    end_group("master: range of the state");
+}
+
+static void test_node_range(void) {
+    static const uint8_t states[] = {0, 1, 2};
+    for (unsigned value = 0; value < 256; value++) {
+        uint8_t byte = (uint8_t)value;
+        node_state_is("state", value <= 2, EDITS({N_STATE, byte}));
+        for (size_t place = 0; place < 3; place++) {
+            uint8_t state = states[place];
+            node_state_is("permission", value <= 1, EDITS({N_STATE, state}, {N_PERMISSION, byte}));
+            node_state_is("error", value <= 1, EDITS({N_STATE, state}, {N_ERROR, byte}));
+            node_state_is("wake bit", value <= 1, EDITS({N_STATE, state}, {N_WAKE, byte}));
+            node_state_is("heard", value <= 1, EDITS({N_STATE, state}, {N_HEARD, byte}));
+            node_state_is("caller", value == 0 || (value == 1 && state == 1), EDITS({N_STATE, state}, {N_CALLER, byte}));
+            node_state_is("quiet count", value <= 4, EDITS({N_STATE, state}, {N_QUIET, byte}));
+            node_state_is("quiet count, high byte", value == 0, EDITS({N_STATE, state}, {N_QUIET - 1, byte}));
+            node_state_is("delay runs", value <= 1, EDITS({N_STATE, state}, {N_RUNS, byte}));
+            node_state_is("delay where none runs", value == 0, EDITS({N_STATE, state}, {N_DELAY, byte}));
+            node_state_is("delay below S", value < 3, EDITS({N_STATE, state}, {N_RUNS, 1}, {N_DELAY, byte}));
+            node_state_is("delay, high byte", value == 0, EDITS({N_STATE, state}, {N_RUNS, 1}, {N_DELAY - 1, byte}));
+            node_state_is("standby count below P", value == 0 || (value < 6 && state == 1), EDITS({N_STATE, state}, {N_STANDBY, byte}));
+            for (size_t high = 1; high <= 3; high++) {
+                node_state_is("standby count, high bytes", value == 0, EDITS({N_STATE, state}, {N_STANDBY - high, byte}));
+            }
+        }
+        node_state_is("standby count up to 2R", value <= 10, EDITS({N_STATE, 1}, {N_CALLER, 1}, {N_STANDBY, byte}));
+        for (size_t reqid = 0; reqid < 128; reqid++) {
+            node_state_is("sequence count", value <= 3, EDITS({N_COUNTS + reqid, byte}));
+        }
+        node_refuses("node number", byte < 2 ? 2 : byte, NONE, BYTES(1), 11);
+    }
+    end_group("node: range of the state");
+}
+
+#define CLOCK BYTES(0, 1)
+#define NO_CLOCK BYTES(0, 0)
+#define NODE_PULSE BYTES(1)
+#define NODE_WAKE BYTES(2)
+#define NODE_PERMIT(value) BYTES(3, value)
+#define SLEEP_MESSAGE BYTES(4)
+#define REQUEST(reqid) BYTES(5, reqid)
+#define SEND(reqid) BYTES(6, reqid)
+
+static void test_node_tick(void) {
+    node_does("clock in Normal", EDITS({N_ERROR, 1}, {N_QUIET, 4}, {N_WAKE, 1}, {N_HEARD, 1}), CLOCK, EDITS({N_ERROR, 0}, {N_QUIET, 0}),
+              0);
+    node_does("clock, delay runs on", EDITS({N_RUNS, 1}, {N_DELAY, 1}), CLOCK, EDITS({N_DELAY, 2}), 0);
+    node_does("clock, delay reaches S",
+              EDITS({N_PERMISSION, 1}, {N_WAKE, 1}, {N_HEARD, 1}, {N_RUNS, 1}, {N_DELAY, 2}, {N_COUNTS + 16, 3}), CLOCK,
+              EDITS({N_STATE, 2}, {N_WAKE, 0}, {N_HEARD, 0}, {N_RUNS, 0}, {N_DELAY, 0}, {N_COUNTS + 16, 0}), 0);
+    node_does("clock in Standby",
+              EDITS({N_STATE, 1}, {N_PERMISSION, 1}, {N_ERROR, 1}, {N_WAKE, 1}, {N_HEARD, 1}, {N_CALLER, 1}, {N_QUIET, 3}, {N_RUNS, 1},
+                    {N_DELAY, 2}, {N_STANDBY, 7}, {N_COUNTS, 1}, {N_COUNTS + 127, 2}),
+              CLOCK,
+              EDITS({N_STATE, 0}, {N_ERROR, 0}, {N_HEARD, 0}, {N_CALLER, 0}, {N_QUIET, 0}, {N_RUNS, 0}, {N_DELAY, 0}, {N_STANDBY, 0},
+                    {N_COUNTS, 0}, {N_COUNTS + 127, 0}),
+              0);
+    node_does("clock in Sleep", EDITS({N_STATE, 2}), CLOCK, EDITS({N_STATE, 1}), 0);
+    node_does("clock in Sleep changes no more",
+              EDITS({N_STATE, 2}, {N_ERROR, 1}, {N_WAKE, 1}, {N_QUIET, 2}, {N_RUNS, 1}, {N_COUNTS, 3}), CLOCK, EDITS({N_STATE, 1}), 0);
+    node_does("no clock, quiet goes up", NONE, NO_CLOCK, EDITS({N_QUIET, 1}), 0);
+    node_does("no clock, quiet and delay go up", EDITS({N_RUNS, 1}, {N_DELAY, 1}, {N_QUIET, 1}), NO_CLOCK,
+              EDITS({N_QUIET, 2}, {N_DELAY, 2}), 0);
+    node_does("no clock, delay reaches S", EDITS({N_RUNS, 1}, {N_DELAY, 2}, {N_QUIET, 3}), NO_CLOCK,
+              EDITS({N_STATE, 2}, {N_RUNS, 0}, {N_DELAY, 0}, {N_QUIET, 0}), 0);
+    node_does("no clock, quiet reaches E", EDITS({N_QUIET, 3}), NO_CLOCK, EDITS({N_QUIET, 4}, {N_ERROR, 1}), 0);
+    node_does("no clock, quiet stays at E", EDITS({N_QUIET, 4}), NO_CLOCK, EDITS({N_ERROR, 1}), 0);
+    node_does("no clock, E and permitted", EDITS({N_PERMISSION, 1}, {N_QUIET, 3}, {N_WAKE, 1}), NO_CLOCK,
+              EDITS({N_STATE, 2}, {N_QUIET, 0}, {N_WAKE, 0}), 0);
+    node_does("no clock, quiet stands at E, permitted", EDITS({N_PERMISSION, 1}, {N_QUIET, 4}, {N_ERROR, 1}), NO_CLOCK,
+              EDITS({N_STATE, 2}, {N_QUIET, 0}, {N_ERROR, 0}), 0);
+    node_does("caller counts", EDITS({N_STATE, 1}, {N_CALLER, 1}), NO_CLOCK, EDITS({N_STANDBY, 1}), 0);
+    node_does("caller's second pulse at R", EDITS({N_STATE, 1}, {N_CALLER, 1}, {N_STANDBY, 4}), NO_CLOCK, EDITS({N_STANDBY, 5}), 1);
+    node_does("caller's second pulse, error shown", EDITS({N_STATE, 1}, {N_CALLER, 1}, {N_ERROR, 1}, {N_STANDBY, 4}), NO_CLOCK,
+              EDITS({N_STANDBY, 5}), 1);
+    node_does("caller after R", EDITS({N_STATE, 1}, {N_CALLER, 1}, {N_STANDBY, 5}), NO_CLOCK, EDITS({N_STANDBY, 6}), 0);
+    node_does("caller at 2R", EDITS({N_STATE, 1}, {N_CALLER, 1}, {N_STANDBY, 9}), NO_CLOCK, EDITS({N_STANDBY, 10}, {N_ERROR, 1}), 0);
+    node_does("caller stays at 2R", EDITS({N_STATE, 1}, {N_CALLER, 1}, {N_STANDBY, 10}), NO_CLOCK, EDITS({N_ERROR, 1}), 0);
+    node_does("caller at 2R, permitted", EDITS({N_STATE, 1}, {N_PERMISSION, 1}, {N_CALLER, 1}, {N_WAKE, 1}, {N_STANDBY, 9}), NO_CLOCK,
+              EDITS({N_STATE, 2}, {N_CALLER, 0}, {N_WAKE, 0}, {N_STANDBY, 0}), 0);
+    node_does("another counts", EDITS({N_STATE, 1}, {N_STANDBY, 4}), NO_CLOCK, EDITS({N_STANDBY, 5}), 0);
+    node_does("another sleeps at P", EDITS({N_STATE, 1}, {N_STANDBY, 5}), NO_CLOCK, EDITS({N_STATE, 2}, {N_STANDBY, 0}), 0);
+    node_does("no delay runs in Standby", EDITS({N_STATE, 1}, {N_RUNS, 1}, {N_DELAY, 2}), NO_CLOCK, EDITS({N_STANDBY, 1}), 0);
+    node_does("no clock in Sleep", EDITS({N_STATE, 2}, {N_RUNS, 1}, {N_DELAY, 2}, {N_QUIET, 4}), NO_CLOCK, NONE, 0);
+    end_group("node: tick");
+}
+
+static void test_node_others(void) {
+    node_does("pulse in Sleep", EDITS({N_STATE, 2}, {N_PERMISSION, 1}), NODE_PULSE, EDITS({N_STATE, 1}), 0);
+    node_does("pulse in Standby", EDITS({N_STATE, 1}, {N_STANDBY, 3}), NODE_PULSE, NONE, 0);
+    node_does("pulse in Normal", EDITS({N_QUIET, 2}), NODE_PULSE, NONE, 0);
+    node_does("wake in Sleep", EDITS({N_STATE, 2}), NODE_WAKE, EDITS({N_STATE, 1}, {N_CALLER, 1}, {N_WAKE, 1}), 1);
+    node_does("wake in Standby, not caller", EDITS({N_STATE, 1}, {N_STANDBY, 3}), NODE_WAKE,
+              EDITS({N_CALLER, 1}, {N_WAKE, 1}, {N_STANDBY, 0}), 1);
+    node_does("wake in Standby, caller", EDITS({N_STATE, 1}, {N_CALLER, 1}, {N_STANDBY, 3}), NODE_WAKE, EDITS({N_WAKE, 1}), 0);
+    node_does("wake in Normal", NONE, NODE_WAKE, EDITS({N_WAKE, 1}), 0);
+    node_does("permission yes", NONE, NODE_PERMIT(1), EDITS({N_PERMISSION, 1}), 0);
+    node_does("permission no, error shows", EDITS({N_PERMISSION, 1}, {N_ERROR, 1}), NODE_PERMIT(0), EDITS({N_PERMISSION, 0}), 0);
+    node_does("permission yes, error shows", EDITS({N_ERROR, 1}, {N_QUIET, 4}, {N_WAKE, 1}), NODE_PERMIT(1),
+              EDITS({N_STATE, 2}, {N_PERMISSION, 1}, {N_ERROR, 0}, {N_QUIET, 0}, {N_WAKE, 0}), 0);
+    node_does("permission yes, caller's error shows", EDITS({N_STATE, 1}, {N_CALLER, 1}, {N_STANDBY, 10}, {N_ERROR, 1}), NODE_PERMIT(1),
+              EDITS({N_STATE, 2}, {N_PERMISSION, 1}, {N_CALLER, 0}, {N_STANDBY, 0}, {N_ERROR, 0}), 0);
+    node_does("permission yes, error in Sleep", EDITS({N_STATE, 2}, {N_ERROR, 1}, {N_HEARD, 1}), NODE_PERMIT(1),
+              EDITS({N_PERMISSION, 1}, {N_ERROR, 0}, {N_HEARD, 0}), 0);
+    node_does("sleep message", NONE, SLEEP_MESSAGE, EDITS({N_RUNS, 1}), 0);
+    node_does("sleep message restarts the delay", EDITS({N_RUNS, 1}, {N_DELAY, 2}), SLEEP_MESSAGE, EDITS({N_DELAY, 0}), 0);
+    node_refuses("sleep message in Standby", 0, EDITS({N_STATE, 1}), SLEEP_MESSAGE, 16);
+    node_refuses("sleep message in Sleep", 0, EDITS({N_STATE, 2}), SLEEP_MESSAGE, 16);
+    node_does("request of another's row", NONE, REQUEST(17), EDITS({N_HEARD, 1}), 0);
+    node_does("request of a master's row", NONE, REQUEST(32), EDITS({N_HEARD, 1}), 0);
+    node_answers("request of its own row", 0, EDITS({N_PERMISSION, 1}, {N_WAKE, 1}, {N_COUNTS + 16, 2}), REQUEST(16),
+                 EDITS({N_HEARD, 1}, {N_WAKE, 0}, {N_COUNTS + 16, 3}), 1, 1, 2);
+    node_answers("count returns to 0, also without one", 1, EDITS({N_COUNTS + 17, 3}), REQUEST(17),
+                 EDITS({N_HEARD, 1}, {N_COUNTS + 17, 0}), 0, 0, 3);
+    node_answers("ask to send, event-triggered", 1, EDITS({N_PERMISSION, 1}), SEND(17), EDITS({N_COUNTS + 17, 1}), 1, 0, 0);
+    node_answers("ask to send, polled and heard", 0, EDITS({N_HEARD, 1}, {N_WAKE, 1}), SEND(16), EDITS({N_WAKE, 0}, {N_COUNTS + 16, 1}),
+                 0, 1, 0);
+    node_refuses("ask to send, polled and not heard", 0, NONE, SEND(16), 21);
+    node_refuses("ask to send another's row, before 21", 0, NONE, SEND(17), 12);
+    node_refuses("ask to send a master's row", 1, NONE, SEND(32), 12);
+    node_refuses("ask to send a row not in the plan", 1, NONE, SEND(18), 12);
+    node_refuses("request of a row not in the plan", 0, NONE, REQUEST(127), 12);
+    node_refuses("request of ReqId 0", 0, NONE, REQUEST(0), 12);
+    node_refuses("request in Standby, before 12", 0, EDITS({N_STATE, 1}), REQUEST(18), 16);
+    node_refuses("ask to send in Sleep, before 12", 0, EDITS({N_STATE, 2}), SEND(17), 16);
+    end_group("node: other events");
+}
+
+/* The order of judging a step: 1, 4 to 8, 10, 11, 15, and wrong lengths of plan, state and answer buffer. */
+static void test_step_order(void) {
+    uint8_t plan[CXPI_PLAN_LENGTH];
+    static uint8_t bytes[LENT_ROOM];
+    call masters = master_call(NONE, TICK);
+    call nodes = node_call(0, NONE, CLOCK);
+    call *both[2] = {&masters, &nodes};
+    for (size_t machine = 0; machine < 2; machine++) {
+        call made = *both[machine];
+        size_t needed = machine == 0 ? 2 : 4;
+        for (size_t place = 0; place < BROKEN_PLANS; place++) {
+            break_plan(&broken_plans[place], plan);
+            made.plan = plan;
+            expect_call(broken_plans[place].what, &made, broken_plans[place].refusal, NONE, NONE);
+            made.answer_length = 0;
+            made.state_length = 0;
+            made.event_length = 0;
+            expect_call("4 to 8 before all others", &made, broken_plans[place].refusal, NONE, NONE);
+            made = *both[machine];
+        }
+        memcpy(bytes, plan_u, sizeof plan_u);
+        made.plan = bytes;
+        for (size_t length = 0; length <= 1200; length++) {
+            if (length != CXPI_PLAN_LENGTH) {
+                made.plan_length = length;
+                expect_call("wrong length of a plan", &made, 1, NONE, NONE);
+            }
+        }
+        made = *both[machine];
+        for (size_t length = 0; length < needed; length++) {
+            made.answer_length = length;
+            expect_call("short answer buffer", &made, 10, NONE, NONE);
+            made.state_length = 0;
+            made.event_length = 0;
+            expect_call("10 before 11 and 15", &made, 10, NONE, NONE);
+            made = *both[machine];
+        }
+        memset(bytes, 0, sizeof bytes);
+        made.state = bytes;
+        for (size_t length = 0; length <= 400; length++) {
+            if (length != both[machine]->state_length) {
+                made.state_length = length;
+                expect_call("wrong length of a state", &made, 11, NONE, NONE);
+            }
+        }
+        made = *both[machine];
+        bytes[0] = 3;
+        made.state = bytes;
+        made.event_length = 0;
+        expect_call("11 before 15", &made, 11, NONE, NONE);
+    }
+    nodes.number = 2;
+    nodes.event_length = 0;
+    expect_call("node number before 15", &nodes, 11, NONE, NONE);
+    nodes.answer_length = 3;
+    expect_call("10 before the node number", &nodes, 10, NONE, NONE);
+    end_group("steps: order and lengths");
+}
+
+/* Unused places of a plan are ignored in a step. */
+static void test_unused_places(void) {
+    uint8_t plan[CXPI_PLAN_LENGTH];
+    memcpy(plan, plan_u, sizeof plan);
+    memset(plan + 27, 0xEE, 56);
+    memset(plan + 95, 18, 496);
+    call made = master_call(NONE, ANSWER(16, 0, 2, 0, 1, 0));
+    made.plan = plan;
+    expect_call("master", &made, 0, EDITS({M_HELD_0, 1}, {M_COUNTS + 16, 0}), EDITS({0, 0}, {1, 0}));
+    made = master_call(NONE, ANSWER(18, 0, 2, 0, 1, 0));
+    made.plan = plan;
+    expect_call("a row past the count", &made, 12, NONE, NONE);
+    made = node_call(0, NONE, REQUEST(18));
+    made.plan = plan;
+    expect_call("a row past the count", &made, 12, NONE, NONE);
+    end_group("steps: unused places");
+}
+
+static void test_file(const char *path) {
+    uint8_t set[CXPI_SET_LENGTH_ONE + 1];
+    FILE *file = fopen(path, "rb");
+    size_t length = file != NULL ? fread(set, 1, sizeof set, file) : 0;
+    check(length == sizeof set_t && memcmp(set, set_t, sizeof set_t) == 0, "the file is set T");
+    if (file != NULL) {
+        fclose(file);
+    }
+    end_group("set T as a file");
+}
+
+int main(int count, char **arguments) {
+    make_plan_u();
+    if (count > 1) {
+        test_file(arguments[1]);
+    }
+    test_read_lengths();
+    test_read_bytes();
+    test_read_plan_block();
+    test_read_nodes();
+    test_read_rows();
+    test_read_order();
+    test_write_lengths();
+    test_write_refusals();
+    test_two_blocks();
+    test_power_on();
+    test_master_tick();
+    test_master_answer();
+    test_master_others();
+    test_master_range();
+    test_node_tick();
+    test_node_others();
+    test_node_range();
+    test_no_events();
+    test_step_order();
+    test_unused_places();
+    printf("%u checks, %u wrong\n", checks, failures);
+    return failures == 0 ? EXIT_SUCCESS : EXIT_FAILURE;
+}

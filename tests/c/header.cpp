@@ -1,0 +1,14 @@
+// Compile check of the header from C++: it may be included twice and declares every export with C linkage.
+//
+// Compile: g++ -std=c++17 -Wall -Wextra -Werror -pedantic -Iinclude -c tests/c/header.cpp -o header.o
+#include "cxpi.h"
+#include "cxpi.h"
+
+extern "C" {
+uint32_t (*read_set)(const uint8_t *, size_t, uint8_t *, size_t) = cxpi_read;
+uint32_t (*write_set)(const uint8_t *, size_t, uint8_t *, size_t) = cxpi_write;
+uint32_t (*master_power_on)(uint8_t *, size_t) = cxpi_master_power_on;
+uint32_t (*node_power_on)(uint8_t *, size_t) = cxpi_node_power_on;
+uint32_t (*master_step)(const uint8_t *, size_t, uint8_t *, size_t, const uint8_t *, size_t, uint8_t *, size_t) = cxpi_master_step;
+uint32_t (*node_step)(const uint8_t *, size_t, uint8_t, uint8_t *, size_t, const uint8_t *, size_t, uint8_t *, size_t) = cxpi_node_step;
+}

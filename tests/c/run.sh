@@ -1,0 +1,31 @@
+#!/bin/sh
+# Builds the archive and runs the C tests against it: each export under sanitizers, the comparison with the independent implementation,
+# the header and the symbols, the firmware example. By gcc, and by clang where it is present.
+set -eu
+cd "$(dirname "$0")/../.."
+out=target/c
+archive=target/staticlib/libcxpi.a
+independent=tests/independent
+reference="$independent/reference_packed.c $independent/reference.c"
+flags="-std=c11 -Wall -Wextra -Werror -pedantic"
+checked="-O1 -g -fsanitize=address,undefined -fno-sanitize-recover=all"
+
+rt staticlib cxpi > /dev/null
+mkdir -p $out
+sh tests/c/symbols.sh $archive include/cxpi.h
+
+for compiler in gcc clang; do
+    command -v $compiler > /dev/null || continue
+    echo "$compiler:"
+    $compiler $flags $checked -Iinclude tests/c/exports.c $archive -o $out/exports
+    $out/exports examples/set-t/plan.set | tail -1
+    $compiler $flags $checked -Iinclude -I$independent tests/c/compare.c $reference $archive -o $out/compare_checked
+    $out/compare_checked 300000 30000 2 | tail -1
+    $compiler $flags $checked -Iinclude examples/firmware/main.c $archive -o $out/firmware
+    $out/firmware | cmp - examples/firmware/stdout
+    $out/firmware examples/set-t/plan.set | cmp - examples/firmware/stdout
+done
+g++ -std=c++17 -Wall -Wextra -Werror -pedantic -Iinclude -c tests/c/header.cpp -o $out/header.o
+
+gcc $flags -O2 -Iinclude -I$independent tests/c/compare.c $reference $archive -o $out/compare
+$out/compare
