@@ -206,22 +206,23 @@ module _ (n : ℕ) (few : n ≤ 16) (t : Times) (Given Given′ : ℕ → ℕ �
 
   -- a sleep ask is refused, or all permit and it is accepted
   pub run-ask : (Q : Reply → Type 0) (m : Master) → ((number node : ℕ) → Q (record { master = m; command = Command.Nothing; refusal = number; node = node; lost = 0 }))
-      → (permitted ≡ true → ((i : ℕ) → i < n → (k : ℕ) × (k ≤ t .window) × Given i k) → Q (commands Command.SleepMessage (inPhase Phase.Sending m))) → Before m → Q (sleepAskStep n m)
-  run-ask Q m refused accepted v = go (m .state) (m .phase)
+      → (isNormal (m .state) ≡ true → permitted ≡ true → ((i : ℕ) → i < n → (k : ℕ) × (k ≤ t .window) × Given i k) → Q (commands Command.SleepMessage (inPhase Phase.Sending m)))
+      → Before m → Q (sleepAskStep n m)
+  run-ask Q m refused accepted v = go (m .state) refl (m .phase)
     where
-      go : (s : State) (q : Phase) → Q (sleepAskBy n s q m)
-      go State.Normal Phase.Open =
+      go : (s : State) → m .state ≡ s → (q : Phase) → Q (sleepAskBy n s q m)
+      go State.Normal e Phase.Open =
           by-test Q (m .permission)
           (λ y. by-test Q (ltb (firstTo (notHeld (m .holds)) n) n)
           (λ l. refused 20 (firstTo (notHeld (m .holds)) n))
-          (λ l. accepted (sym (v .permission) ∙ y)
+          (λ l. accepted (ap isNormal e) (sym (v .permission) ∙ y)
           (λ i h. let g = v .holds i h (all-held n (m .holds) (ltb-false _ _ l) i h) in (holdAt (m .holds) i .age, g .1, g .0))))
           (λ y. refused 19 0)
-      go State.Normal Phase.Sending = refused 18 0
-      go State.Normal Phase.Withdrawn = refused 18 0
-      go State.Normal Phase.Closing = refused 18 0
-      go State.Standby q = refused 16 0
-      go State.Sleep q = refused 16 0
+      go State.Normal e Phase.Sending = refused 18 0
+      go State.Normal e Phase.Withdrawn = refused 18 0
+      go State.Normal e Phase.Closing = refused 18 0
+      go State.Standby e q = refused 16 0
+      go State.Sleep e q = refused 16 0
 
   -- an answer in Normal, of a node's row: others' permissions stay unless it is a wake-up; one that permits is held and calls nothing back
   pub run-answer : (m : Master) (row : Row) (a : Answer) → isNormal (m .state) ≡ true → row .publisher < n
