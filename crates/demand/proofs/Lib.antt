@@ -1,2 +1,3 @@
+pub mod Masters
 pub mod Nodes
 pub mod Ticks
