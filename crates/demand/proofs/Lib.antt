@@ -1,3 +1,4 @@
+pub mod Holds
 pub mod Masters
 pub mod Nodes
 pub mod Ticks
