@@ -291,5 +291,6 @@ module _ (p : Plan) (ok : planRefusal p ≡ 0) where
 
       woken : (nodes : List Node) (past : List Passed) → AllTold p nodes past → Wakes p past nodes
       woken nodes past v on i l quiet =
-          let g = run-on-long (p .times) _ _ _ (nodeAt nodes i) (v .each i l) (on-counted i (p .times .sleep + 2) past on quiet) in
+          let long = on-counted i _ past on quiet in
+          let g = run-on-long (p .times) _ _ _ (nodeAt nodes i) (v .each i l) (omega (arith, long)) in
           (g .0, g .1)
