@@ -1,5 +1,4 @@
 -- A move on the bus.
-use Prim.Native.Nat.{ℕ}
 use lib.Dec.{eqb}
 use Rattle.folds.specs.Fold.{pick}
 use Rattle.plan.specs.declared.Plan.{Plan}

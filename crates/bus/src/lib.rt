@@ -1,7 +1,6 @@
 // The master and its nodes on a bus: what a move does to them.
 ghost use mathlib.Core.Path.{_≡_};
 ghost use Rattle.bus.specs.World.{powerOn, moved, stays, nodesUsed};
-ghost use Rattle.bus.specs.Range.{worldInRange};
 ghost use Rattle.bus.specs.Moves.{worldAct, worldStep};
 use master::Answer;
 use master::Master;

@@ -1,5 +1,5 @@
 -- Demand 3 holds of every list of moves under every accepted plan.
-use Prim.Native.Nat.{ℕ, max, _+_, _*_, _≤_, _<_}
+use Prim.Native.Nat.{ℕ, _≤_, _<_}
 use mathlib.Core.Path.{_≡_, refl, sym, ap, subst, _∙_}
 use mathlib.Core.Bool.{Bool, true, false, not, _&&_}
 use mathlib.Core.List.{List, [], _∷_}
@@ -52,15 +52,15 @@ use Rattle.bus.specs.Moves.{actBy, worldAct}
 use Rattle.bus.specs.Owners.{ofNode, wakeAskBy, permissionBy}
 use Rattle.bus.specs.Pulses.{withCaller, anyCalled, reachAll, spread}
 use Rattle.bus.specs.Ticks.{tickedNodes, tickCallers}
-use Rattle.bus.specs.World.{powerOn, nodesUsed, nodeAt, Passed, ticked, asked, masterPermits, nodePermits, answered, sending, slept, nothing, Outcome, stays}
-use Rattle.demand.specs.Demand3.{ClockFor, settlingTime, Settles, Wakes, Demand3}
+use Rattle.bus.specs.World.{nodesUsed, nodeAt, Passed, ticked, asked, answered, Outcome, stays}
+use Rattle.demand.specs.Demand3.{settlingTime, Settles, Wakes, Demand3}
 use Rattle.demand.specs.Run.{Run, then, runFrom, run, start}
 use Rattle.demand.specs.Words.{nodePermitted}
 use Rattle.demand.proofs.Masters as Masters
 use Rattle.demand.proofs.Masters.{MasterTold}
 use Rattle.demand.proofs.Nodes as Nodes
-use Rattle.demand.proofs.Nodes.{Told, AllTold, few}
-use Rattle.demand.proofs.Ticks.{onFor, offFor, on-counted, off-counted}
+use Rattle.demand.proofs.Nodes.{Told, AllTold}
+use Rattle.demand.proofs.Ticks.{offFor, on-counted, off-counted}
 
 -- all machines as the past tells
 pub record AsTold (p : Plan) (w : World) (past : List Passed) : Type 0 where

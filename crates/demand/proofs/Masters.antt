@@ -1,22 +1,19 @@
 -- The master of a run: what it holds and has under way is as the past tells, after every move.
-use Prim.Native.Nat.{ℕ, suc, _≤_, _<_}
+use Prim.Native.Nat.{ℕ, _≤_, _<_}
 use mathlib.Core.Path.{_≡_, refl, sym, ap, subst, _∙_}
-use mathlib.Core.Bool.{Bool, true, false, not, _&&_}
+use mathlib.Core.Bool.{Bool, true, false}
 use mathlib.Core.List.{List, [], _∷_, _++_}
-use lib.Dec.{eqb}
 use native.Mathlib.Omega.{arith}
-use borrow.Author.Tests.{eq-eqb, ne-eqb}
+use borrow.Author.Tests.{ne-eqb}
 use Rattle.folds.specs.Fold.{pick}
-use Rattle.folds.proofs.Choices.{by-test, no-way}
+use Rattle.folds.proofs.Choices.{no-way}
 use Rattle.machine.specs.State.{isNormal}
 use Rattle.plan.specs.declared.Plan.{Plan}
 use Rattle.plan.specs.declared.Row.{Row}
 use Rattle.plan.specs.Rules.{planRefusal}
 use Rattle.master.specs.declared.Answer.{Answer}
-use Rattle.master.specs.declared.Command.{Command}
 use Rattle.master.specs.declared.Event.{Event}
 use Rattle.master.specs.declared.Master.{Master}
-use Rattle.master.specs.declared.Phase.{Phase}
 use Rattle.master.specs.declared.Reply.{Reply}
 use Rattle.master.specs.Answers.{isWhole, rowStep}
 use Rattle.master.specs.Changes as MasterChanges
@@ -223,7 +220,7 @@ module _ (p : Plan) (ok : planRefusal p ≡ 0) (past : List Passed) where
 
   pub tick-told : (pulse : Bool) (m : Master) → MasterTold p m past
       → MasterTold p (pick pulse (wakeUpStep (tickStep (p .times) m .master) .master) (tickStep (p .times) m .master))
-        (ticked (clockOn (tickStep (p .times) m .master)) (isOff (tickStep (p .times) m .command)) pulse ∷ past)
+      (ticked (clockOn (tickStep (p .times) m .master)) (isOff (tickStep (p .times) m .command)) pulse ∷ past)
   tick-told pulse m v =
       woken (clockOn (tickStep (p .times) m .master)) (isOff (tickStep (p .times) m .command)) pulse (tickStep (p .times) m .master) (ticks m v)
 
@@ -268,19 +265,22 @@ module _ (p : Plan) (ok : planRefusal p ≡ 0) (past : List Passed) where
         run =
             run-answer (p .nodecount) (few p ok) (p .times) Now (Next (answered row a)) (Agreed p past) (Agreed p (answered row a ∷ past)) (masterPermitted past) m row a on l
             (λ i k h n w r. recent-later p i k past (answered row a) (ne-eqb (row .publisher) i (λ e. n (sym e))) w r)
-            (λ whole permits unwoken. (record {
-              since = [];
-              row = row;
-              answer = a;
-              before = past;
-              split = refl;
-              publisher = refl;
-              last = refl;
-              whole = whole;
-              truly = rw (permits, unwoken, honest whole permits);
-              age = refl;
-              unwoken = refl;
-            }, agreed-later p past (answered row a) refl (rw (whole, unwoken)) (rw (whole, permits)) (rw whole)))
+            (λ whole permits unwoken. (
+              record {
+                since = [];
+                row = row;
+                answer = a;
+                before = past;
+                split = refl;
+                publisher = refl;
+                last = refl;
+                whole = whole;
+                truly = rw (permits, unwoken, honest whole permits);
+                age = refl;
+                unwoken = refl;
+              },
+              agreed-later p past (answered row a) refl (rw (whole, unwoken)) (rw (whole, permits)) (rw whole),
+            ))
             (v .run);
         fits = f;
         stops = (λ h. no-way h, v .stops);

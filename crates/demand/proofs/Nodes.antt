@@ -1,9 +1,8 @@
 -- The nodes of a run: each is as the past tells, after every move.
 use Prim.Native.Nat.{ℕ, suc, _≤_, _<_}
-use mathlib.Core.Path.{_≡_, refl, sym, ap, subst, _∙_}
-use mathlib.Core.Bool.{Bool, true, false, _&&_}
+use mathlib.Core.Path.{_≡_, refl, sym, subst, _∙_}
+use mathlib.Core.Bool.{Bool, true, false}
 use mathlib.Core.List.{List, [], _∷_}
-use lib.Dec.{eqb}
 use lib.ListN.{getD, set, length, length-set, getD-replicate}
 use lib.Seq.{getD-set-same, getD-set-other}
 use native.Mathlib.Omega.{arith}
@@ -15,21 +14,20 @@ use Rattle.plan.specs.declared.Lookup.{Lookup}
 use Rattle.plan.specs.declared.Plan.{Plan}
 use Rattle.plan.specs.Rules.{planRefusal}
 use Rattle.plan.proofs.Accepted.{accepted, nodes-few, TimesFit, times-fit}
-use Rattle.node.specs.declared.Command.{Command}
 use Rattle.node.specs.declared.Node.{Node}
 use Rattle.node.specs.Changes as NodeChanges
 use Rattle.node.specs.Ticks.{tickStep}
 use Rattle.node.specs.Waking.{wakeAskStep, permissionStep}
 use Rattle.node.specs.Sending.{sendAskStep}
 use Rattle.node.proofs.Commands.{Tells, tick-tells}
-use Rattle.node.proofs.Settling.{InRun, run-power-on, run-on-ends, run-off-ends, run-tick, run-pulse, run-wake-ask, run-permission, run-sleep-message, run-request, run-send-ask}
+use Rattle.node.proofs.Settling.{InRun, run-power-on, run-off-ends, run-tick, run-pulse, run-wake-ask, run-permission, run-sleep-message, run-request, run-send-ask}
 use Rattle.master.specs.declared.Master.{Master}
 use Rattle.bus.specs.declared.Bus.{Bus}
 use Rattle.bus.specs.declared.Callers.{Callers}
 use Rattle.bus.specs.declared.Message.{Message}
 use Rattle.bus.specs.declared.World.{World}
 use Rattle.bus.specs.Each.{eachTo}
-use Rattle.bus.specs.Pulses.{anyCalled, otherCalled, receive, receiveIf, reachAll, spread}
+use Rattle.bus.specs.Pulses.{anyCalled, otherCalled, receiveIf, reachAll, spread}
 use Rattle.bus.specs.Ticks.{tickedNodes, tickCallers}
 use Rattle.bus.specs.World.{powerOn, nodesUsed, noNode, nodeAt, Passed, ticked, asked, nodePermits, slept}
 use Rattle.bus.proofs.EachOne.{each-length, each-get}
@@ -96,9 +94,9 @@ module _ (p : Plan) (ok : planRefusal p ≡ 0) where
 
   pub tick-told : (clock stop pulse : Bool) (bus : Bus) (m : Master) (nodes : List Node) (past : List Passed) → AllTold p nodes past
       → AllTold p
-        (spread (nodesUsed (p .nodecount)) (tickCallers (p .times) clock (nodesUsed (p .nodecount)) nodes) bus
-        (record { master = m; nodes = tickedNodes (p .times) clock (nodesUsed (p .nodecount)) nodes }) .nodes)
-        (ticked clock stop pulse ∷ past)
+      (spread (nodesUsed (p .nodecount)) (tickCallers (p .times) clock (nodesUsed (p .nodecount)) nodes) bus
+      (record { master = m; nodes = tickedNodes (p .times) clock (nodesUsed (p .nodecount)) nodes }) .nodes)
+      (ticked clock stop pulse ∷ past)
   tick-told clock stop pulse bus m nodes past v =
       heard (tickCallers (p .times) clock (nodesUsed (p .nodecount)) nodes) bus m (tickedNodes (p .times) clock (nodesUsed (p .nodecount)) nodes) (ticked clock stop pulse ∷ past) early
       (over (λ k n. tickStep (p .times) clock n .node) nodes past (ticked clock stop pulse ∷ past) v (λ i l s. run-tick (p .times) _ _ _ (nodeAt nodes i) s times clock))

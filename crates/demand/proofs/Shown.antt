@@ -1,5 +1,4 @@
 -- The examples, computed.
-use Prim.Native.Nat.{ℕ}
 use mathlib.Core.Path.{_≡_, refl}
 use mathlib.Core.Bool.{Bool, true, false}
 use mathlib.Core.List.{List, [], _∷_}
@@ -14,7 +13,7 @@ use Rattle.bus.specs.World.{nodeAt, Passed, nothing}
 use Rattle.demand.specs.Demand3.{settlingTime}
 use Rattle.demand.specs.Examples.{plan, awake, ticks, stopping, calling, failing}
 use Rattle.demand.specs.Run.{run}
-use Rattle.demand.specs.Words.{isStop, leavesOff}
+use Rattle.demand.specs.Words.{isStop}
 
 plan-accepted : planRefusal plan ≡ 0
 unfolding plan planRefusal timesRight entryRight differs nodeRight nodesRight reqidBefore rowAfter rowRight rowsRight isFrom publishes allPublish allTo anyTo

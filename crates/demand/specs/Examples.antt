@@ -2,9 +2,8 @@
 use Prim.Native.Nat.{ℕ, zero, suc}
 use mathlib.Core.Bool.{Bool, true, false}
 use mathlib.Core.List.{List, [], _∷_, _++_}
-use lib.ListN.{replicate, set}
+use lib.ListN.{replicate}
 use Rattle.plan.specs.declared.Plan.{Plan}
-use Rattle.plan.specs.declared.Times.{Times}
 use Rattle.plan.specs.Record.{zeroEntry, zeroRow}
 use Rattle.bus.specs.declared.Act.{Act}
 use Rattle.bus.specs.declared.Bus.{Bus}

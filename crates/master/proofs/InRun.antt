@@ -29,7 +29,7 @@ use Rattle.master.specs.Clock.{isOff}
 use Rattle.master.specs.Ticks.{older, olderAt, allOlder, aged, tickBy, tickStep}
 use Rattle.master.specs.Waking.{wakeUpBy, wakeUpStep, permissionStep}
 use Rattle.master.specs.Sleeping.{notHeld, sleepAskBy, sleepAskStep, sendResultBy, sendResultStep}
-use Rattle.master.specs.Answers.{isWhole, judged, wholeStep, rowStep}
+use Rattle.master.specs.Answers.{isWhole, judged, rowStep}
 
 -- a sleep message under way, and not called back
 abbrev pub underWay : Phase → Bool

@@ -1,12 +1,12 @@
 -- The nodes passed have ticked, and those of them that called are known. Assumes nothing.
-use Prim.Native.Nat.{ℕ, _-_, _≤_}
+use Prim.Native.Nat.{_-_, _≤_}
 use mathlib.Core.Path.{_≡_, refl, ap, _∙_}
 use native.Mathlib.Omega.{arith}
 use lib.ListN.{length}
 use Rattle.node.specs.declared.Node.{Node}
 use Rattle.node.specs.declared.Reply.{Reply}
 use Rattle.node.specs.Ticks.{tickStep}
-use Rattle.bus.specs.Ticks.{tickedNodes, tickCallers, tickNodes}
+use Rattle.bus.specs.Ticks.{tickedNodes, tickCallers}
 use Rattle.bus.specs.World.{noNode}
 use Rattle.bus.proofs.EachOne.{each-more, each-next}
 use Rattle.bus.proofs.WhoCalls.{callers-more}
