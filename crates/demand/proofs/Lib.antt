@@ -1,4 +1,5 @@
 pub mod Holds
+pub mod Judged
 pub mod Masters
 pub mod Nodes
 pub mod Shown
