@@ -24,24 +24,23 @@ pub(crate) fn is_normal(state: State) -> bool
     }
 }
 
-fn tick_nodes(nodes: [Node; 16], count: u8, times: Times, clock: bool) -> Ticked
+fn tick_nodes(mut nodes: [Node; 16], count: u8, times: Times, clock: bool) -> Ticked
     requires { ⌜ count ≤ 16 ⌝ }
     ensures { λ r. ⌜ r ≡ tickNodes times clock count nodes ⌝ }
 {
-    let mut ticked = nodes;
     let mut callers = Callers::Nobody;
     let mut i: u8 = 0;
     while i < count {
-        let node = ticked[i as usize];
+        let node = nodes[i as usize];
         let reply = node.tick(times, clock);
         let command = reply.command;
         callers = with_caller(callers, i, command);
         let next = reply.node;
-        ticked[i as usize] = next;
+        nodes[i as usize] = next;
         i += 1;
     }
     Ticked {
-        nodes: ticked,
+        nodes,
         callers,
     }
 }

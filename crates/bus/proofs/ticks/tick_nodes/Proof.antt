@@ -15,11 +15,11 @@ use Rattle.bus.proofs.ticks.tick_nodes.Statement.{statement}
 use Rattle.bus.proofs.ticks.tick_nodes.Tie as tie
 
 abbrev Inv-loop : tie.InvT-loop
-Inv-loop count times clock ticked₀ callers₀ i₀ ticked callers i =
-    (i ≤ count) × (count ≤ 16) × (length ticked₀ ≡ 16) × (ticked ≡ tickedNodes times clock i ticked₀) × (callers ≡ tickCallers times clock i ticked₀)
+Inv-loop count times clock nodes₀ callers₀ i₀ nodes callers i =
+    (i ≤ count) × (count ≤ 16) × (length nodes₀ ≡ 16) × (nodes ≡ tickedNodes times clock i nodes₀) × (callers ≡ tickCallers times clock i nodes₀)
 
 abbrev μ-loop : tie.MeasureT-loop
-μ-loop count times clock ticked₀ callers₀ i₀ ticked callers i = count - i
+μ-loop count times clock nodes₀ callers₀ i₀ nodes callers i = count - i
 
 loop-holds : tie.Need-loop-holds Inv-loop μ-loop
 loop-holds c = (search needs, search needs, search needs, refl, refl)
@@ -39,14 +39,14 @@ tick-requires c κs = search needs
 with-caller-requires : tie.Need-with-caller-requires Inv-loop μ-loop
 with-caller-requires c κs = search needs
 
-cast-ticked : tie.Need-cast-ticked Inv-loop μ-loop
-cast-ticked c = search needs
+cast-nodes : tie.Need-cast-nodes Inv-loop μ-loop
+cast-nodes c = search needs
 
-mul-ticked : tie.Need-mul-ticked Inv-loop μ-loop
-mul-ticked c = search needs
+mul-nodes : tie.Need-mul-nodes Inv-loop μ-loop
+mul-nodes c = search needs
 
-array-set-from-ticked : tie.Need-array-set-from-ticked Inv-loop μ-loop
-array-set-from-ticked c = search needs
+array-set-from-nodes : tie.Need-array-set-from-nodes Inv-loop μ-loop
+array-set-from-nodes c = search needs
 
 add-i : tie.Need-add-i Inv-loop μ-loop
 add-i c = search needs
@@ -59,7 +59,7 @@ loop-again c =
     let at = c .before .before .before .before .before .loop in
     let a = c .before .before .before .before .before .before .args in
     let told = c .before .before .tick .ensures in
-    let same = each-next _ (a .nodes) (at .ticked) (at .i) noNode (at .inv .3) in (
+    let same = each-next _ (a .t1) (at .nodes) (at .i) noNode (at .inv .3) in (
       omega arith,
       omega arith,
       at .inv .2,
@@ -86,9 +86,9 @@ tick-nodes-spec =
     array-copy-out-node
     tick-requires
     with-caller-requires
-    cast-ticked
-    mul-ticked
-    array-set-from-ticked
+    cast-nodes
+    mul-nodes
+    array-set-from-nodes
     add-i
     loop-less
     loop-again
