@@ -82,7 +82,7 @@ fn receive_if(reached: bool, node: Node, me: u8, message: Message) -> Node
 
 // A message reaches those of the first `count` nodes that are in a set.
 pub(crate) fn reach_all(
-    nodes: [Node; 16],
+    mut nodes: [Node; 16],
     count: u8,
     reached: [bool; 16],
     message: Message,
@@ -90,14 +90,13 @@ pub(crate) fn reach_all(
     requires { ⌜ count ≤ 16 ⌝ }
     ensures { λ r. ⌜ r ≡ reachAll message reached count nodes ⌝ }
 {
-    let mut next = nodes;
     let mut i: u8 = 0;
     while i < count {
-        let node = next[i as usize];
-        next[i as usize] = receive_if(reached[i as usize], node, i, message);
+        let node = nodes[i as usize];
+        nodes[i as usize] = receive_if(reached[i as usize], node, i, message);
         i += 1;
     }
-    next
+    nodes
 }
 
 impl World {

@@ -39,10 +39,7 @@ fn tick_nodes(mut nodes: [Node; 16], count: u8, times: Times, clock: bool) -> Ti
         nodes[i as usize] = next;
         i += 1;
     }
-    Ticked {
-        nodes,
-        callers,
-    }
+    Ticked { nodes, callers }
 }
 
 impl World {

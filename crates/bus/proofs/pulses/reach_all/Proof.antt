@@ -10,10 +10,10 @@ use Rattle.bus.proofs.pulses.reach_all.Statement.{statement}
 use Rattle.bus.proofs.pulses.reach_all.Tie as tie
 
 abbrev Inv-loop : tie.InvT-loop
-Inv-loop count message reached next₀ i₀ next i = (i ≤ count) × (count ≤ 16) × (length next₀ ≡ 16) × (length reached ≡ 16) × (next ≡ reachAll message reached i next₀)
+Inv-loop count message nodes₀ reached i₀ nodes i = (i ≤ count) × (count ≤ 16) × (length nodes₀ ≡ 16) × (length reached ≡ 16) × (nodes ≡ reachAll message reached i nodes₀)
 
 abbrev μ-loop : tie.MeasureT-loop
-μ-loop count message reached next₀ i₀ next i = count - i
+μ-loop count message nodes₀ reached i₀ nodes i = count - i
 
 loop-holds : tie.Need-loop-holds Inv-loop μ-loop
 loop-holds c = (search needs, search needs, search needs, search needs, refl)
@@ -36,14 +36,14 @@ array-read-receive-if c = search needs
 receive-if-requires : tie.Need-receive-if-requires Inv-loop μ-loop
 receive-if-requires c κs = search needs
 
-cast-next : tie.Need-cast-next Inv-loop μ-loop
-cast-next c = search needs
+cast-nodes : tie.Need-cast-nodes Inv-loop μ-loop
+cast-nodes c = search needs
 
-mul-next : tie.Need-mul-next Inv-loop μ-loop
-mul-next c = search needs
+mul-nodes : tie.Need-mul-nodes Inv-loop μ-loop
+mul-nodes c = search needs
 
-array-set-from-next : tie.Need-array-set-from-next Inv-loop μ-loop
-array-set-from-next c = search needs
+array-set-from-nodes : tie.Need-array-set-from-nodes Inv-loop μ-loop
+array-set-from-nodes c = search needs
 
 add-i : tie.Need-add-i Inv-loop μ-loop
 add-i c = search needs
@@ -61,7 +61,7 @@ returns c =
     let at = c .before .loop in
     let a = c .before .before .args in
     let e : at .i ≡ a .count = omega (arith, c .loop-test .left) in
-    at .inv .4 ∙ ap (λ (k : ℕ). reachAll (a .message) (a .t3) k (a .nodes)) e
+    at .inv .4 ∙ ap (λ (k : ℕ). reachAll (a .message) (a .t3) k (a .t1)) e
 
 pub reach-all-spec : {M : Type 1} → statement M
 reach-all-spec =
@@ -76,9 +76,9 @@ reach-all-spec =
     cast-receive-if
     array-read-receive-if
     receive-if-requires
-    cast-next
-    mul-next
-    array-set-from-next
+    cast-nodes
+    mul-nodes
+    array-set-from-nodes
     add-i
     loop-less
     loop-again
