@@ -1,9 +1,10 @@
 -- Bytes and big-endian numbers at offsets.
 use Prim.Native.Nat.{ℕ, _+_, _*_, _/_, _%_, _≤_, _<_}
-use mathlib.Core.List.{List}
+use mathlib.Core.List.{List, [], _∷_, _++_}
 use mathlib.Core.Bool.{Bool}
 use lib.ListN.{getD}
 use lib.Dec.{eqb}
+use Rattle.folds.specs.Fold.{tab}
 
 -- the byte at an offset, 0 past the end
 abbrev pub byte : List ℕ → ℕ → ℕ
@@ -19,6 +20,21 @@ highByte x = x / 256
 
 abbrev pub lowByte : ℕ → ℕ
 lowByte x = x % 256
+
+-- "Numbers are big-endian"
+abbrev pub twoBytes : ℕ → List ℕ
+twoBytes x = highByte x ∷ lowByte x ∷ []
+
+-- the number of the four bytes from an offset on, and its bytes
+abbrev pub longNumber : List ℕ → ℕ → ℕ
+longNumber s o = number s o * 65536 + number s (o + 2)
+
+abbrev pub fourBytes : ℕ → List ℕ
+fourBytes x = twoBytes (x / 65536) ++ twoBytes (x % 65536)
+
+-- the table of 128 bytes from an offset on
+unfoldable pub tableAt : List ℕ → ℕ → List ℕ
+tableAt s start = tab 128 (λ i. byte s (start + i))
 
 -- whether the byte i places after an offset is zero
 abbrev pub isZero : List ℕ → ℕ → ℕ → Bool

@@ -4,7 +4,7 @@ ghost use Prim.Native.Nat.{_+_, _*_};
 ghost use lib.ListN.{length, replicate};
 ghost use lib.Seq.{sets};
 ghost use Rattle.folds.specs.Fold.{allTo};
-ghost use Rattle.blocks.specs.Bytes.{byte, number, isZero, Reach};
+ghost use Rattle.blocks.specs.Bytes.{byte, number, tableAt, isZero, Reach};
 
 pub fn byte_at(bytes: &[u8], offset: usize) -> u8
     ensures { λ r. ⌜ r ≡ byte (now (bytes .entry)) offset ⌝ }
@@ -30,6 +30,13 @@ pub fn number_at(bytes: &[u8], offset: usize) -> u16
     } else {
         0
     }
+}
+
+// The number of two halves of two bytes each.
+pub fn long_number(high: u16, low: u16) -> u32
+    ensures { λ r. ⌜ r ≡ high * 65536 + low ⌝ }
+{
+    (high as u32) * 65536 + (low as u32)
 }
 
 // How many of some places from an offset on lie below a length.
@@ -81,4 +88,18 @@ pub fn put_zeros(buffer: &mut [u8], start: usize, count: usize)
         buffer[start + i] = 0;
         i += 1;
     }
+}
+
+// The table of 128 bytes from an offset on.
+pub fn table_at(bytes: &[u8], start: usize) -> [u8; 128]
+    ensures { λ r. ⌜ r ≡ tableAt (now (bytes .entry)) start ⌝ }
+{
+    let within = reach(bytes.len(), start, 128);
+    let mut table = [0; 128];
+    let mut i: usize = 0;
+    while i < within {
+        table[i] = bytes[start + i];
+        i += 1;
+    }
+    table
 }

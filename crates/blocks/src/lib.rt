@@ -4,7 +4,9 @@ mod check;
 
 pub use bytes::are_zero;
 pub use bytes::byte_at;
+pub use bytes::long_number;
 pub use bytes::number_at;
 pub use bytes::put;
 pub use bytes::put_zeros;
+pub use bytes::table_at;
 pub use check::block_check;

@@ -6,7 +6,7 @@ use Rattle.machine.specs.Counts.{countsBelow}
 use Rattle.plan.specs.Record.{zeroPlan}
 use Rattle.plan.specs.Rules.{timesRight, entryRight, differs, nodeRight, nodesRight, reqidBefore, rowAfter, rowRight, rowsRight, isFrom, publishes, allPublish, planRefusal}
 use Rattle.plan.specs.Find.{hasReqid, rowAmong, findRow}
-use Rattle.reader.specs.Layout.{timesOf, entryFrom, nodeOf, nodesOf, rowcountOf, rowPlace, rowFrom, rowOf, rowsOf, planOf}
+use Rattle.reader.specs.Layout.{timesFrom, entryFrom, nodeOf, nodesOf, rowcountOf, rowPlace, rowFrom, rowOf, rowsOf, planOf}
 use Rattle.reader.specs.Rules.{lengthRight, checkRight, checksRight, blockType, typeRight, typesRight, revisionSame, revisionsSame, countsRight, named, fillerAt, fillerRight}
 use Rattle.reader.specs.Read.{setRefusal, readSet}
 use Rattle.writer.specs.Write.{withCheck}
@@ -16,5 +16,5 @@ use Rattle.master.specs.Sleeping.{notHeld}
 use Rattle.edges.specs.Edges.{AllHold, edges}
 
 pub edges-hold : AllHold edges
-unfolding readSet setRefusal zeroPlan planOf timesOf entryFrom nodeOf nodesOf rowcountOf rowPlace rowFrom rowOf rowsOf lengthRight checkRight checksRight blockType typeRight typesRight revisionSame revisionsSame countsRight named fillerAt fillerRight planRefusal timesRight entryRight differs nodeRight nodesRight reqidBefore rowAfter rowRight rowsRight isFrom publishes allPublish hasReqid rowAmong findRow withCheck blockCheck countsBelow inRange holdsRight allOlder notHeld sumTo allTo anyTo firstTo tab
+unfolding readSet setRefusal zeroPlan planOf timesFrom entryFrom nodeOf nodesOf rowcountOf rowPlace rowFrom rowOf rowsOf lengthRight checkRight checksRight blockType typeRight typesRight revisionSame revisionsSame countsRight named fillerAt fillerRight planRefusal timesRight entryRight differs nodeRight nodesRight reqidBefore rowAfter rowRight rowsRight isFrom publishes allPublish hasReqid rowAmong findRow withCheck blockCheck countsBelow inRange holdsRight allOlder notHeld sumTo allTo anyTo firstTo tab
 edges-hold = (refl, (refl, (refl, (refl, (refl, (refl, (refl, (refl, (refl, (refl, (refl, tt)))))))))))

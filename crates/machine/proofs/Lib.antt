@@ -1,1 +1,2 @@
+pub mod ByteTrips
 pub mod CountTables

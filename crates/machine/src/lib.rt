@@ -1,7 +1,13 @@
-// What master and node share: their states, and a table of sequence counts by ReqId.
+// What master and node share: their states, a table of sequence counts by ReqId, and states and flags as bytes.
 ghost use mathlib.Core.Path.{_≡_};
 ghost use lib.ListN.{getD, set};
 ghost use Rattle.machine.specs.Counts.{countsBelow};
+
+mod bytes;
+
+pub use bytes::flag_byte;
+pub use bytes::state_byte;
+pub use bytes::state_of;
 
 // The states of network management (ISO 20794-2, 9.3.2).
 pub enum State {

@@ -1,7 +1,10 @@
 // The rules of a plan record, judged once for reader, writer and every step.
 ghost use mathlib.Core.Path.{_≡_};
 ghost use Prim.Native.Nat.{_≤_, _<_};
+ghost use mathlib.Core.Bool.{_||_};
+ghost use lib.Dec.{ltb, eqb};
 ghost use Rattle.folds.specs.Fold.{allTo, tab};
+ghost use Rattle.plan.specs.Answers.{masterNumber};
 ghost use Rattle.plan.specs.Record.{rowsUsed};
 ghost use Rattle.plan.specs.Rules.{inRange, timesRight, entryRight, differs, nodeRight, nodesRight, rowAfter, rowRight, rowsRight, publishes, allPublish, planRefusal};
 use crate::NodeEntry;
@@ -89,13 +92,26 @@ fn nodes_right(p: Plan) -> bool
     each_node_right(nodes, count as usize)
 }
 
+fn publisher_right(nodecount: u8, publisher: u8) -> bool
+    ensures { λ r. ⌜ r ≡ (ltb publisher nodecount || eqb publisher masterNumber) ⌝ }
+{
+    (publisher < nodecount) | (publisher == Plan::MASTER)
+}
+
+// Early exits, which are foreseen, where combining the tests would make each row wait for all of them.
 fn row_after(nodecount: u8, before: u8, row: Row) -> bool
     ensures { λ r. ⌜ r ≡ rowAfter nodecount before row ⌝ }
 {
-    (before < row.reqid)
-        & (row.reqid <= 127)
-        & ((row.publisher < nodecount) | (row.publisher == Plan::MASTER))
-        & (row.kind <= 1)
+    if before < row.reqid {
+        if row.reqid <= 127 {
+            if publisher_right(nodecount, row.publisher) {
+                return row.kind <= 1;
+            }
+            return false;
+        }
+        return false;
+    }
+    false
 }
 
 // The row is passed, not the rows: an array handed over in a loop is copied in each turn.

@@ -1,3 +1,4 @@
 pub mod Layout
 pub mod Read
+pub mod Record
 pub mod Rules

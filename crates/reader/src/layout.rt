@@ -1,7 +1,7 @@
-// The record of a set's bytes, whether or not they keep the rules.
+// The plan record of bytes, whether or not they keep the rules: of a set's, and of a packed record's.
 ghost use mathlib.Core.Path.{_≡_};
 ghost use Prim.Native.Nat.{_<_};
-ghost use Rattle.reader.specs.Layout.{timesOf, entryFrom, nodeOf, nodesOf, rowcountOf, rowPlace, rowFrom, rowOf, rowsOf, planOf};
+ghost use Rattle.reader.specs.Layout.{timesFrom, entryFrom, nodeOf, nodesOf, rowcountOf, rowPlace, rowFrom, rowOf, rowsOf, planOf};
 use blocks::byte_at;
 use blocks::number_at;
 use plan::NodeEntry;
@@ -9,29 +9,30 @@ use plan::Plan;
 use plan::Row;
 use plan::Times;
 
-fn times_of(s: &[u8]) -> Times
-    ensures { λ r. ⌜ r ≡ timesOf (now (s .entry)) ⌝ }
+pub(crate) fn times_from(s: &[u8], o: usize) -> Times
+    requires { ⌜ o < 4096 ⌝ }
+    ensures { λ r. ⌜ r ≡ timesFrom (now (s .entry)) o ⌝ }
 {
     Times {
-        window: number_at(s, 6),
-        stop: number_at(s, 8),
-        sleep: number_at(s, 10),
-        quiet: number_at(s, 12),
-        recovery: number_at(s, 14),
-        space: number_at(s, 16),
-        start: number_at(s, 18),
+        window: number_at(s, o),
+        stop: number_at(s, o + 2),
+        sleep: number_at(s, o + 4),
+        quiet: number_at(s, o + 6),
+        recovery: number_at(s, o + 8),
+        space: number_at(s, o + 10),
+        start: number_at(s, o + 12),
     }
 }
 
-fn entry_from(s: &[u8], k: usize) -> NodeEntry
-    requires { ⌜ k < 16 ⌝ }
-    ensures { λ r. ⌜ r ≡ entryFrom (now (s .entry)) k ⌝ }
+fn entry_from(s: &[u8], o: usize) -> NodeEntry
+    requires { ⌜ o < 4096 ⌝ }
+    ensures { λ r. ⌜ r ≡ entryFrom (now (s .entry)) o ⌝ }
 {
     NodeEntry {
-        address: byte_at(s, 32 + 4 * k),
-        class: byte_at(s, 33 + 4 * k),
-        method: byte_at(s, 34 + 4 * k),
-        reserved: byte_at(s, 35 + 4 * k),
+        address: byte_at(s, o),
+        class: byte_at(s, o + 1),
+        method: byte_at(s, o + 2),
+        reserved: byte_at(s, o + 3),
     }
 }
 
@@ -40,7 +41,7 @@ fn node_of(s: &[u8], count: usize, k: usize) -> NodeEntry
     ensures { λ r. ⌜ r ≡ nodeOf (now (s .entry)) count k ⌝ }
 {
     if k < count {
-        entry_from(s, k)
+        entry_from(s, 32 + 4 * k)
     } else {
         NodeEntry {
             address: 0,
@@ -146,7 +147,7 @@ pub(crate) fn plan_of(s: &[u8]) -> Plan
 {
     let nodecount = byte_at(s, 4);
     let rowcount = rowcount_of(s);
-    let times = times_of(s);
+    let times = times_from(s, 6);
     let nodes = nodes_of(s, nodecount as usize);
     let rows = rows_of(s, rowcount as usize);
     Plan {

@@ -4,7 +4,11 @@ ghost use Rattle.reader.specs.Read.{readSet, refused};
 use plan::Plan;
 
 mod layout;
+mod record;
 mod rules;
+
+pub use record::read_record;
+pub use record::record_of;
 
 pub struct ReadAnswer {
     pub refusal: u8,

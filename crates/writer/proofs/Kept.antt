@@ -11,10 +11,10 @@ use native.Mathlib.Omega.{arith}
 use native.Mathlib.Decide.{decLt}
 use borrow.Author.Tests.{lt-ltb, le-ltb, le-leb, eq-eqb, ne-eqb, leb-true, leb-false}
 use Rattle.folds.proofs.AllAny.{all-intro}
-use Rattle.blocks.specs.Bytes.{byte, number}
+use Rattle.blocks.specs.Bytes.{byte, number, twoBytes}
 use Rattle.plan.specs.declared.Plan.{Plan}
 use Rattle.reader.specs.Rules.{eachBlock, lengthRight, checkRight, checksRight, blockType, typeRight, typesRight, revisionSame, revisionsSame, countsRight, planNamed, messageNamed, named, fillerAt, fillerRight}
-use Rattle.writer.specs.Write.{twoBytes, planHead, rowsIn, messageHead, setLength, writeSet}
+use Rattle.writer.specs.Write.{planHead, rowsIn, messageHead, setLength, writeSet}
 use Rattle.writer.proofs.Lengths.{blockCount, length-short, length-long, length-blocks}
 use Rattle.writer.proofs.SetBytes.{set-long, set-check, head-byte, plan-filler, message-head, message-filler}
 use Rattle.writer.proofs.ReadBack.{nodecount-back}

@@ -8,38 +8,35 @@ use native.Mathlib.Omega.{arith}
 use borrow.Author.Tests.{eq-eqb, ne-eqb, leb-true, leb-false, ltb-true, ltb-false}
 use Rattle.folds.specs.Fold.{tab}
 use Rattle.folds.proofs.Tables.{tab-ext}
-use Rattle.blocks.specs.Bytes.{byte, number, highByte, lowByte}
+use Rattle.blocks.specs.Bytes.{byte, number}
+use Rattle.blocks.proofs.Halves.{from-halves}
 use Rattle.plan.specs.declared.Plan.{Plan}
 use Rattle.plan.specs.Record.{entryAt, rowAt, usedEntry, usedRow, unusedZero}
-use Rattle.reader.specs.Layout.{timesOf, entryFrom, nodeOf, nodesOf, rowcountOf, rowPlace, rowFrom, rowOf, rowsOf, planOf}
+use Rattle.reader.specs.Layout.{timesFrom, entryFrom, nodeOf, nodesOf, rowcountOf, rowPlace, rowFrom, rowOf, rowsOf, planOf}
 use Rattle.writer.specs.Write.{planHead, rowsIn, messageHead, entryBytes, rowBytes, writeSet}
 use Rattle.writer.proofs.Lengths.{blockCount, length-short, length-long}
 use Rattle.writer.proofs.SetBytes.{set-long, head-byte, node-byte, message-head, message-row}
 
--- a number from its two bytes
-two : (x a b : ℕ) → a ≡ highByte x → b ≡ lowByte x → a * 256 + b ≡ x
-two x a b p q = rw (p, q) (omega arith)
-
 module _ (p : Plan) (few-nodes : p .nodecount ≤ 16) (few-rows : p .rowcount ≤ 127) where
   pub revision-back : number (writeSet p) 2 ≡ p .revision
   unfolding planHead
-  revision-back = two _ _ _ (head-byte p 2 (omega arith)) (head-byte p 3 (omega arith))
+  revision-back = from-halves _ _ _ (head-byte p 2 (omega arith)) (head-byte p 3 (omega arith))
 
   pub nodecount-back : byte (writeSet p) 4 ≡ p .nodecount
   unfolding planHead
   nodecount-back = head-byte p 4 (omega arith)
 
-  pub times-back : timesOf (writeSet p) ≡ p .times
-  unfolding timesOf planHead
+  pub times-back : timesFrom (writeSet p) 6 ≡ p .times
+  unfolding timesFrom planHead
   times-back =
       λ i. record {
-        window = two _ _ _ (head-byte p 6 (omega arith)) (head-byte p 7 (omega arith)) i;
-        stop = two _ _ _ (head-byte p 8 (omega arith)) (head-byte p 9 (omega arith)) i;
-        sleep = two _ _ _ (head-byte p 10 (omega arith)) (head-byte p 11 (omega arith)) i;
-        quiet = two _ _ _ (head-byte p 12 (omega arith)) (head-byte p 13 (omega arith)) i;
-        recovery = two _ _ _ (head-byte p 14 (omega arith)) (head-byte p 15 (omega arith)) i;
-        space = two _ _ _ (head-byte p 16 (omega arith)) (head-byte p 17 (omega arith)) i;
-        start = two _ _ _ (head-byte p 18 (omega arith)) (head-byte p 19 (omega arith)) i;
+        window = from-halves _ _ _ (head-byte p 6 (omega arith)) (head-byte p 7 (omega arith)) i;
+        stop = from-halves _ _ _ (head-byte p 8 (omega arith)) (head-byte p 9 (omega arith)) i;
+        sleep = from-halves _ _ _ (head-byte p 10 (omega arith)) (head-byte p 11 (omega arith)) i;
+        quiet = from-halves _ _ _ (head-byte p 12 (omega arith)) (head-byte p 13 (omega arith)) i;
+        recovery = from-halves _ _ _ (head-byte p 14 (omega arith)) (head-byte p 15 (omega arith)) i;
+        space = from-halves _ _ _ (head-byte p 16 (omega arith)) (head-byte p 17 (omega arith)) i;
+        start = from-halves _ _ _ (head-byte p 18 (omega arith)) (head-byte p 19 (omega arith)) i;
       }
 
   pub rowcount-back : rowcountOf (writeSet p) ≡ p .rowcount
@@ -55,14 +52,14 @@ module _ (p : Plan) (few-nodes : p .nodecount ≤ 16) (few-rows : p .rowcount �
           let z : length (writeSet p) ≡ 1536 = set-long p ∙ length-long (p .rowcount) many in
           rw (ne-eqb (length (writeSet p)) 1024 (λ q. omega arith)) (ap (λ x. 100 + x) (message-head p 2 (omega arith) (rw e (omega arith)) 4 (omega arith)) ∙ omega arith)
 
-  entry-back : (k : ℕ) → k < p .nodecount → entryFrom (writeSet p) k ≡ entryAt (p .nodes) k
+  entry-back : (k : ℕ) → k < p .nodecount → entryFrom (writeSet p) (32 + 4 * k) ≡ entryAt (p .nodes) k
   unfolding entryFrom
   entry-back k h =
       λ i. record {
         address = at 0 (32 + 4 * k) (omega arith) (omega arith) i;
-        class = at 1 (33 + 4 * k) (omega arith) (omega arith) i;
-        method = at 2 (34 + 4 * k) (omega arith) (omega arith) i;
-        reserved = at 3 (35 + 4 * k) (omega arith) (omega arith) i;
+        class = at 1 (32 + 4 * k + 1) (omega arith) refl i;
+        method = at 2 (32 + 4 * k + 2) (omega arith) refl i;
+        reserved = at 3 (32 + 4 * k + 3) (omega arith) refl i;
       }
     where
       at : (m o : ℕ) → m < 4 → o ≡ 32 + 4 * k + m → byte (writeSet p) o ≡ getD (entryBytes (entryAt (p .nodes) k)) m 0

@@ -14,29 +14,24 @@ use Rattle.folds.specs.Fold.{pick, tab}
 use Rattle.folds.proofs.AllAny.{all-at, and-l, and-r, halves}
 use Rattle.folds.proofs.Tables.{getD-tab}
 use Rattle.blocks.specs.Bytes.{byte, number, highByte, lowByte}
+use Rattle.blocks.proofs.Halves.{high-at, low-at}
 use Rattle.plan.specs.declared.NodeEntry.{NodeEntry}
 use Rattle.plan.specs.declared.Row.{Row}
 use Rattle.plan.specs.Record.{zeroEntry, zeroRow, entryAt, rowAt}
 use Rattle.plan.specs.Rules.{inRange}
 use Rattle.plan.proofs.Accepted.{Accepted, accepted, nodes-few, rows-few}
-use Rattle.reader.specs.Layout.{oneMessageBlock, timesOf, entryFrom, nodeOf, nodesOf, rowcountOf, rowPlace, rowFrom, rowOf, rowsOf, planOf}
+use Rattle.reader.specs.Layout.{oneMessageBlock, timesFrom, nodeOf, nodesOf, rowcountOf, rowPlace, rowOf, rowsOf, planOf}
 use Rattle.reader.specs.Rules.{eachBlock, lengthRight, checkRight, checksRight, blockType, typeRight, typesRight, revisionSame, revisionsSame, countsRight, messageNamed, named, fillerAt, fillerRight}
 use Rattle.reader.proofs.Accepted.{AcceptedSet}
 use Rattle.writer.specs.Write.{planHead, entryBytes, rowBytes, planByte, rowsIn, messageHead, messageByte, dataByte, setLength, writeSet}
 use Rattle.writer.proofs.Lengths.{blockCount, length-blocks}
 use Rattle.writer.proofs.Checks.{check-ext}
+use Rattle.writer.proofs.Fours.{entry-byte, row-byte}
 use Rattle.writer.proofs.SetBytes.{set-long, set-data, set-check, set-low}
 
 filler-at : (s : List ℕ) → fillerRight s ≡ true → (o : ℕ) → o < length s → (named s o || eqb (byte s o) 0) ≡ true
 unfolding fillerRight fillerAt
 filler-at s e o h = all-at (fillerAt s) (length s) e o h
-
--- the halves of a number of two bytes
-high-half : (a b : ℕ) → b < 256 → (a * 256 + b) / 256 ≡ a
-high-half a b h = omega arith
-
-low-half : (a b : ℕ) → b < 256 → (a * 256 + b) % 256 ≡ b
-low-half a b h = omega arith
 
 -- the size of a right set and the rows that it says
 record Short (s : List ℕ) : Type 0 where
@@ -115,36 +110,36 @@ module _ (s : List ℕ) (r : AcceptedSet s) where
     zero-at : (o : ℕ) → o < 1024 → named s o ≡ false → byte s o ≡ 0
     zero-at o h e = no-name o (omega (arith, long-enough)) e
 
-    high-at : (o : ℕ) → highByte (number s o) ≡ byte s o
-    high-at o = high-half (byte s o) (byte s (o + 1)) (bytes (o + 1))
+    high-byte : (o : ℕ) → highByte (number s o) ≡ byte s o
+    high-byte o = high-at s o (bytes (o + 1))
 
-    low-at : (o : ℕ) → lowByte (number s o) ≡ byte s (o + 1)
-    low-at o = low-half (byte s o) (byte s (o + 1)) (bytes (o + 1))
+    low-byte : (o : ℕ) → lowByte (number s o) ≡ byte s (o + 1)
+    low-byte o = low-at s o (bytes (o + 1))
 
     head-is : planHead (planOf s) ≡ tab 32 (byte s)
-    unfolding planHead planOf timesOf tab named blockType
+    unfolding planHead planOf timesFrom tab named blockType
     head-is =
         let m = type-of 0 first in
         cc (
           m .0,
           m .1,
-          high-at 2,
-          low-at 2,
+          high-byte 2,
+          low-byte 2,
           zero-at 5 (omega arith) refl,
-          high-at 6,
-          low-at 6,
-          high-at 8,
-          low-at 8,
-          high-at 10,
-          low-at 10,
-          high-at 12,
-          low-at 12,
-          high-at 14,
-          low-at 14,
-          high-at 16,
-          low-at 16,
-          high-at 18,
-          low-at 18,
+          high-byte 6,
+          low-byte 6,
+          high-byte 8,
+          low-byte 8,
+          high-byte 10,
+          low-byte 10,
+          high-byte 12,
+          low-byte 12,
+          high-byte 14,
+          low-byte 14,
+          high-byte 16,
+          low-byte 16,
+          high-byte 18,
+          low-byte 18,
           zero-at 20 (omega arith) refl,
           zero-at 21 (omega arith) refl,
           zero-at 22 (omega arith) refl,
@@ -165,19 +160,9 @@ module _ (s : List ℕ) (r : AcceptedSet s) where
 
     -- byte i of the entry of node k
     entry-is : (k i : ℕ) → k < byte s 4 → i < 4 → getD (entryBytes (entryAt (planOf s .nodes) k)) i 0 ≡ byte s (32 + 4 * k + i)
-    unfolding planOf nodesOf nodeOf entryFrom
+    unfolding planOf nodesOf nodeOf
     entry-is k i a b =
-        ap (λ (e : NodeEntry). getD (entryBytes e) i 0) (getD-tab 16 (nodeOf s (byte s 4)) k zeroEntry (omega (arith, nodes-bound)) ∙ rw (lt-ltb k (byte s 4) a)) ∙ go i b
-      where
-        to : (o m : ℕ) → o ≡ m → byte s o ≡ byte s m
-        to o m e = ap (byte s) e
-
-        go : (i : ℕ) → i < 4 → getD (entryBytes (entryFrom s k)) i 0 ≡ byte s (32 + 4 * k + i)
-        go zero q = to _ _ (omega arith)
-        go (suc zero) q = to _ _ (omega arith)
-        go (suc (suc zero)) q = to _ _ (omega arith)
-        go (suc (suc (suc zero))) q = to _ _ (omega arith)
-        go (suc (suc (suc (suc i)))) q = absurd (omega arith)
+        ap (λ (e : NodeEntry). getD (entryBytes e) i 0) (getD-tab 16 (nodeOf s (byte s 4)) k zeroEntry (omega (arith, nodes-bound)) ∙ rw (lt-ltb k (byte s 4) a)) ∙ entry-byte s (32 + 4 * k) i b
 
     no-plan-name : (o : ℕ) → 32 + 4 * byte s 4 ≤ o → o < 510 → named s o ≡ false
     unfolding named
@@ -244,8 +229,8 @@ module _ (s : List ℕ) (r : AcceptedSet s) where
           let z : 512 * b + 0 ≡ 512 * b = omega arith in
           let y : 512 * b + 2 + 1 ≡ 512 * b + 3 = omega arith in
           let k : blockType b ≡ 0x4d = rw (ne-eqb b 0 (λ e. omega arith)) in
-          let a : highByte (number s 2) ≡ byte s (512 * b + 2) = ap highByte (sym same-revision) ∙ high-at (512 * b + 2) in
-          let c : lowByte (number s 2) ≡ byte s (512 * b + 3) = ap lowByte (sym same-revision) ∙ low-at (512 * b + 2) ∙ ap (byte s) y in
+          let a : highByte (number s 2) ≡ byte s (512 * b + 2) = ap highByte (sym same-revision) ∙ high-byte (512 * b + 2) in
+          let c : lowByte (number s 2) ≡ byte s (512 * b + 3) = ap lowByte (sym same-revision) ∙ low-byte (512 * b + 2) ∙ ap (byte s) y in
           let d : byte s (512 * b + 0) ≡ 0x4d = ap (byte s) z ∙ m .0 ∙ k in
           cc (d, m .1, a, c, blank 5 (omega arith) refl, blank 6 (omega arith) refl, blank 7 (omega arith) refl)
 
@@ -277,19 +262,12 @@ module _ (s : List ℕ) (r : AcceptedSet s) where
                   (omega arith, rw (le-ltb (100 * (b - 1) + k) 100 (omega arith)) (omega arith))
 
       row-is : (k i : ℕ) → k < byte s (512 * b + 4) → i < 4 → getD (rowBytes (rowAt (planOf s .rows) (100 * (b - 1) + k))) i 0 ≡ byte s (512 * b + (8 + 4 * k + i))
-      unfolding planOf rowsOf rowOf rowFrom
+      unfolding planOf rowsOf rowOf
       row-is k i a q =
-          ap (λ (e : Row). getD (rowBytes e) i 0) (getD-tab 127 (rowOf s (rowcountOf s)) j zeroRow (omega (arith, place-is k a .0, rows-few (planOf s) (kept .rows))) ∙ rw (lt-ltb j (rowcountOf s) (place-is k a .0), place-is k a .1)) ∙ go i q
+          ap (λ (e : Row). getD (rowBytes e) i 0) (getD-tab 127 (rowOf s (rowcountOf s)) j zeroRow (omega (arith, place-is k a .0, rows-few (planOf s) (kept .rows))) ∙ rw (lt-ltb j (rowcountOf s) (place-is k a .0), place-is k a .1)) ∙ row-byte s (512 * b + (8 + 4 * k)) i q ∙ ap (byte s) (omega arith)
         where
           j : ℕ
           j = 100 * (b - 1) + k
-
-          go : (i : ℕ) → i < 4 → getD (rowBytes (rowFrom s (512 * b + (8 + 4 * k)))) i 0 ≡ byte s (512 * b + (8 + 4 * k + i))
-          go zero q = ap (byte s) (omega arith)
-          go (suc zero) q = ap (byte s) (omega arith)
-          go (suc (suc zero)) q = ap (byte s) (omega arith)
-          go (suc (suc (suc zero))) q = ap (byte s) (omega arith)
-          go (suc (suc (suc (suc i)))) q = absurd (omega arith)
 
       message-data : (o : ℕ) → o < 510 → messageByte (planOf s) b o ≡ byte s (512 * b + o)
       unfolding messageByte

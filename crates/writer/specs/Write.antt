@@ -4,7 +4,7 @@ use mathlib.Core.List.{List, [], _∷_, _++_}
 use lib.ListN.{length, getD, set, drop, replicate}
 use lib.Dec.{leb, ltb, eqb}
 use Rattle.folds.specs.Fold.{pick, tab}
-use Rattle.blocks.specs.Bytes.{highByte, lowByte}
+use Rattle.blocks.specs.Bytes.{highByte, lowByte, twoBytes}
 use Rattle.blocks.specs.Check.{blockCheck}
 use Rattle.plan.specs.declared.NodeEntry.{NodeEntry}
 use Rattle.plan.specs.declared.Row.{Row}
@@ -12,10 +12,6 @@ use Rattle.plan.specs.declared.Plan.{Plan}
 use Rattle.plan.specs.Record.{entryAt, rowAt}
 use Rattle.plan.specs.Rules.{planRefusal}
 use Rattle.writer.specs.declared.WriteAnswer.{WriteAnswer}
-
--- "Numbers are big-endian"
-abbrev pub twoBytes : ℕ → List ℕ
-twoBytes x = highByte x ∷ lowByte x ∷ []
 
 -- the first 32 bytes of the plan block: "0 = 50 hex; 1 = 1; 2-3 revision ..; 4 = N ..; 6-19 seven times"
 unfoldable pub planHead : Plan → List ℕ

@@ -5,7 +5,10 @@ ghost use Rattle.writer.specs.Write.{writeRefusal, writeAnswer, written}
 use plan::Plan;
 use plan::plan_refusal;
 
+mod record;
 mod set_blocks;
+
+pub use record::write_record;
 
 pub struct WriteAnswer {
     pub refusal: u8,

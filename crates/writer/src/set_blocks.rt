@@ -96,20 +96,33 @@ fn put_four(buffer: &mut [u8], o: usize, v0: u8, v1: u8, v2: u8, v3: u8)
     buffer[o + 3] = v3;
 }
 
-fn put_entries(buffer: &mut [u8], nodes: [NodeEntry; 16], count: usize)
-    requires { ⌜ (count ≤ 16) × (512 ≤ length (now buffer)) ⌝ }
-    ensures { λ _. ⌜ Put 32 (4 * count) (entryByteAt nodes) (now (buffer .entry)) (now (buffer .exit)) ⌝ }
+pub(crate) fn put_entries(buffer: &mut [u8], start: usize, nodes: [NodeEntry; 16], count: usize)
+    requires { ⌜ (count ≤ 16) × (start + 4 * count ≤ length (now buffer)) × (start ≤ 2048) ⌝ }
+    ensures { λ _. ⌜ Put start (4 * count) (entryByteAt nodes) (now (buffer .entry)) (now (buffer .exit)) ⌝ }
 {
     let mut k: usize = 0;
     while k < count {
         let e = nodes[k];
-        put_four(buffer, 32 + 4 * k, e.address, e.class, e.method, e.reserved);
+        put_four(
+            buffer,
+            start + 4 * k,
+            e.address,
+            e.class,
+            e.method,
+            e.reserved,
+        );
         k += 1;
     }
 }
 
 // Puts some rows from a first one on.
-fn put_rows(buffer: &mut [u8], rows: [Row; 127], start: usize, first: usize, count: usize)
+pub(crate) fn put_rows(
+    buffer: &mut [u8],
+    rows: [Row; 127],
+    start: usize,
+    first: usize,
+    count: usize,
+)
     requires { ⌜ (first + count ≤ 127) × (start + 4 * count ≤ length (now buffer)) × (start ≤ 2048) ⌝ }
     ensures { λ _. ⌜ Put start (4 * count) (rowByteFrom rows first) (now (buffer .entry)) (now (buffer .exit)) ⌝ }
 {
@@ -136,7 +149,7 @@ fn put_plan(p: Plan, buffer: &mut [u8])
     let nodes = p.nodes;
     let head = plan_head(p);
     put(buffer, 0, &head[..]);
-    put_entries(buffer, nodes, count);
+    put_entries(buffer, 32, nodes, count);
     put_zeros(buffer, 32 + 4 * count, 480 - 4 * count);
 }
 

@@ -10,8 +10,8 @@ byte-at-requires c κs = search needs
 rowcount-of-requires : tie.Need-rowcount-of-requires
 rowcount-of-requires c κs = search needs
 
-times-of-requires : tie.Need-times-of-requires
-times-of-requires c κs = search needs
+times-from-requires : tie.Need-times-from-requires
+times-from-requires c κs = search needs
 
 cast-nodes-of : tie.Need-cast-nodes-of
 cast-nodes-of c = search needs
@@ -38,7 +38,7 @@ plan-of-spec =
     (tie.spec
     byte-at-requires
     rowcount-of-requires
-    times-of-requires
+    times-from-requires
     cast-nodes-of
     nodes-of-requires
     cast-rows-of

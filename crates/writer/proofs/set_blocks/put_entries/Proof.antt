@@ -9,10 +9,10 @@ use Rattle.writer.proofs.set_blocks.put_entries.Statement.{statement}
 use Rattle.writer.proofs.set_blocks.put_entries.Tie as tie
 
 abbrev Inv-loop : tie.InvT-loop
-Inv-loop buffer₀ count nodes k₀ buffer k = (k ≤ count) × Put 32 (4 * k) (entryByteAt nodes) buffer₀ buffer
+Inv-loop buffer₀ start count nodes k₀ buffer k = (k ≤ count) × Put start (4 * k) (entryByteAt nodes) buffer₀ buffer
 
 abbrev μ-loop : tie.MeasureT-loop
-μ-loop buffer₀ count nodes k₀ buffer k = count - k
+μ-loop buffer₀ start count nodes k₀ buffer k = count - k
 
 loop-holds : tie.Need-loop-holds Inv-loop μ-loop
 loop-holds c = (search needs, put-start _ _ _)
@@ -41,7 +41,7 @@ loop-less c = search needs
 loop-again : tie.Need-loop-again Inv-loop μ-loop
 loop-again c = (
   search needs,
-  put-next 32 (4 * c .before .before .before .before .before .before .loop .k) 4 _ _ _ _ _ _ _ (c .before .before .before .before .before .before .loop .inv .1) (c .before .before .put-four .ensures) refl (omega arith) (λ i p. entry-four (c .before .before .before .before .before .before .before .before .args .t2) _ i p),
+  put-next _ (4 * c .before .before .before .before .before .before .loop .k) 4 _ _ _ _ _ _ _ (c .before .before .before .before .before .before .loop .inv .1) (c .before .before .put-four .ensures) refl (omega arith) (λ i p. entry-four (c .before .before .before .before .before .before .before .before .args .t3) _ i p),
 )
 
 same-length : tie.Need-same-length Inv-loop μ-loop

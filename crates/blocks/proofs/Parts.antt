@@ -1,0 +1,27 @@
+-- Bytes as a head and the table behind it.
+use Prim.Native.Nat.{ℕ, _+_, _-_, _<_}
+use mathlib.Core.Path.{_≡_, ap, sym, _∙_}
+use mathlib.Core.List.{List, _++_}
+use lib.ListN.{length, getD, length-append, List·getD-append}
+use lib.Seq.{getD-append-add, ext-getD}
+use native.Mathlib.Omega.{arith}
+use native.Mathlib.Decide.{decLt}
+use Rattle.folds.specs.Fold.{tab}
+use Rattle.folds.proofs.Tables.{getD-tab, length-tab}
+use Rattle.blocks.specs.Bytes.{byte, tableAt}
+
+-- the first bytes, then the table of the others, are all the bytes
+pub head-and-table : (s head : List ℕ) (n : ℕ) → length s ≡ n + 128 → head ≡ tab n (byte s) → head ++ tableAt s n ≡ s
+unfolding tableAt
+head-and-table s head n size e = rw e (ext-getD 0 (tab n (byte s) ++ tab 128 (λ i. byte s (n + i))) s long (λ o h. at o (omega (arith, long)) (decLt o n)))
+  where
+    long : length (tab n (byte s) ++ tab 128 (λ i. byte s (n + i))) ≡ length s
+    long = simp (length-append, length-tab, size)
+
+    at : (o : ℕ) → o < length s → Dec (o < n) → getD (tab n (byte s) ++ tab 128 (λ i. byte s (n + i))) o 0 ≡ byte s o
+    at o h (yes p) = List·getD-append (tab n (byte s)) (tab 128 (λ i. byte s (n + i))) 0 o (omega (arith, length-tab n (byte s))) ∙ getD-tab n (byte s) o 0 p
+    at o h (no p) =
+        let u : o ≡ length (tab n (byte s)) + (o - n) = omega (arith, length-tab n (byte s)) in
+        let z : n + (o - n) ≡ o = omega arith in
+        ap (λ k. getD (tab n (byte s) ++ tab 128 (λ i. byte s (n + i))) k 0) u ∙ getD-append-add (tab n (byte s)) (tab 128 (λ i. byte s (n + i))) (o - n) 0
+        ∙ getD-tab 128 (λ i. byte s (n + i)) (o - n) 0 (omega (arith, size)) ∙ ap (byte s) z

@@ -1,0 +1,3 @@
+pub mod MasterCalls
+pub mod NodeCalls
+pub mod SetCalls

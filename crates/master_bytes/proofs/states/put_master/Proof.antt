@@ -1,0 +1,50 @@
+-- Head, permissions and counts, one behind the other. Assumes nothing.
+use Rattle.master_bytes.proofs.StateTrips.{master-put}
+use borrow.Author.Needs.{needs}
+use Rattle.master_bytes.proofs.states.put_master.Statement.{statement}
+use Rattle.master_bytes.proofs.states.put_master.Tie as tie
+
+master-head-requires : tie.Need-master-head-requires
+master-head-requires c κs = search needs
+
+holds-bytes-requires : tie.Need-holds-bytes-requires
+holds-bytes-requires c κs = search needs
+
+slice-aggregate-put : tie.Need-slice-aggregate-put
+slice-aggregate-put c = search needs
+
+put-requires : tie.Need-put-requires
+put-requires c κs = search needs
+
+slice-aggregate-put-2 : tie.Need-slice-aggregate-put-2
+slice-aggregate-put-2 c = search needs
+
+put-requires-2 : tie.Need-put-requires-2
+put-requires-2 c κs = search needs
+
+slice-aggregate-put-3 : tie.Need-slice-aggregate-put-3
+slice-aggregate-put-3 c = search needs
+
+put-requires-3 : tie.Need-put-requires-3
+put-requires-3 c κs = search needs
+
+same-length : tie.Need-same-length
+same-length c = search needs
+
+returns : tie.Need-returns
+returns c = master-put _ _ _ _ _ _ _ (c .before .before .before .before .before .before .before .before .before .before .before .before .before .before .before .before .master-head .ensures) (c .before .before .before .before .before .before .before .before .before .before .before .before .before .before .before .holds-bytes .ensures) (c .before .before .before .before .before .before .before .before .before .before .before .before .put .ensures) (c .before .before .before .before .before .before .before .put2 .ensures) (c .before .before .put3 .ensures)
+
+pub put-master-spec : {M : Type 1} → statement M
+put-master-spec =
+    tie.close
+    (tie.spec
+    master-head-requires
+    holds-bytes-requires
+    slice-aggregate-put
+    put-requires
+    slice-aggregate-put-2
+    put-requires-2
+    slice-aggregate-put-3
+    put-requires-3
+    same-length
+    returns)

@@ -1,0 +1,71 @@
+-- The master's state as 185 bytes.
+use Prim.Native.Nat.{ℕ, _+_, _*_, _/_, _%_}
+use mathlib.Core.Bool.{Bool, _&&_}
+use mathlib.Core.List.{List, [], _∷_, _++_}
+use lib.ListN.{length, getD}
+use lib.Dec.{ltb, eqb}
+use Rattle.folds.specs.Fold.{pick, tab, allTo}
+use Rattle.blocks.specs.Bytes.{byte, number, twoBytes, longNumber, fourBytes, tableAt}
+use Rattle.machine.specs.Bytes.{stateByte, stateOf, flagByte, flagOf}
+use Rattle.master.specs.declared.Phase.{Phase}
+use Rattle.master.specs.declared.Hold.{Hold}
+use Rattle.master.specs.declared.Master.{Master}
+use Rattle.master.specs.Changes.{noHold, powerOn, withDelay}
+
+-- "phase 0 Open, 1 Sending, 2 Withdrawn, 3 Closing"
+abbrev pub phaseByte : Phase → ℕ
+phaseByte Phase.Open = 0
+phaseByte Phase.Sending = 1
+phaseByte Phase.Withdrawn = 2
+phaseByte Phase.Closing = 3
+
+-- the phase of a byte below 4
+abbrev pub phaseOf : ℕ → Phase
+phaseOf b = pick (eqb b 0) Phase.Open (pick (eqb b 1) Phase.Sending (pick (eqb b 2) Phase.Withdrawn Phase.Closing))
+
+-- 0 state, 1 phase, 2 own permission, 3-4 delay, 5-8 tick number
+abbrev pub masterHead : Master → List ℕ
+masterHead m = stateByte (m .state) ∷ phaseByte (m .phase) ∷ flagByte (m .permission) ∷ twoBytes (m .delay) ++ fourBytes (m .ticks)
+
+-- a node's permission: 1 if it is held, else 0; its age
+abbrev pub holdBytes : Hold → List ℕ
+holdBytes h = flagByte (h .held) ∷ twoBytes (h .age)
+
+abbrev pub holdFrom : List ℕ → ℕ → Hold
+holdFrom s o = record { held = flagOf (byte s o); age = number s (o + 1) }
+
+-- 9-56 the permissions of sixteen nodes
+abbrev pub holdByteAt : List Hold → ℕ → ℕ
+holdByteAt holds i = getD (holdBytes (getD holds (i / 3) noHold)) (i % 3) 0
+
+unfoldable pub holdsBytes : List Hold → List ℕ
+holdsBytes holds = tab 48 (holdByteAt holds)
+
+abbrev pub holdOf : List ℕ → ℕ → Hold
+holdOf s k = holdFrom s (9 + 3 * k)
+
+unfoldable pub holdsOf : List ℕ → List Hold
+holdsOf s = tab 16 (holdOf s)
+
+-- 57-184 the last sequence count of each ReqId
+unfoldable pub masterBytes : Master → List ℕ
+masterBytes m = masterHead m ++ holdsBytes (m .holds) ++ m .counts
+
+abbrev pub flagAt : List ℕ → ℕ → Bool
+flagAt s k = ltb (byte s (9 + 3 * k)) 2
+
+-- "bytes that are no state": another length, a state above 2, a phase above 3, a flag above 1
+unfoldable pub isMaster : List ℕ → Bool
+isMaster s = eqb (length s) 185 && ltb (byte s 0) 3 && ltb (byte s 1) 4 && ltb (byte s 2) 2 && allTo (flagAt s) 16
+
+abbrev pub masterFrom : List ℕ → Master
+masterFrom s =
+    record { state = stateOf (byte s 0); phase = phaseOf (byte s 1); permission = flagOf (byte s 2); holds = holdsOf s; counts = tableAt s 57; delay = number s 3; ticks = longNumber s 5 }
+
+-- a master out of range under every plan: "a delay below C in Standby, below D in Closing, else 0"
+abbrev pub noMaster : Master
+noMaster = withDelay 1 powerOn
+
+-- the master of bytes; of bytes that are no state one that each step refuses as 11
+abbrev pub masterOf : List ℕ → Master
+masterOf s = pick (isMaster s) (masterFrom s) noMaster

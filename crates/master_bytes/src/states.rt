@@ -1,0 +1,175 @@
+// The master's state as bytes.
+ghost use mathlib.Core.Path.{_≡_};
+ghost use Prim.Native.Nat.{_<_};
+ghost use lib.Seq.{sets};
+ghost use Rattle.folds.specs.Fold.{allTo};
+ghost use Rattle.master_bytes.specs.States.{phaseByte, phaseOf, masterHead, holdsBytes, holdOf, holdsOf, masterBytes, flagAt, isMaster, masterFrom, noMaster, masterOf};
+use blocks::byte_at;
+use blocks::long_number;
+use blocks::number_at;
+use blocks::put;
+use blocks::table_at;
+use machine::flag_byte;
+use machine::state_byte;
+use machine::state_of;
+use master::Hold;
+use master::Master;
+use master::Phase;
+
+fn phase_byte(phase: Phase) -> u8
+    ensures { λ r. ⌜ r ≡ phaseByte phase ⌝ }
+{
+    match phase {
+        Phase::Open => 0,
+        Phase::Sending => 1,
+        Phase::Withdrawn => 2,
+        Phase::Closing => 3,
+    }
+}
+
+fn phase_of(byte: u8) -> Phase
+    ensures { λ r. ⌜ r ≡ phaseOf byte ⌝ }
+{
+    if byte == 0 {
+        return Phase::Open;
+    }
+    if byte == 1 {
+        return Phase::Sending;
+    }
+    if byte == 2 {
+        return Phase::Withdrawn;
+    }
+    Phase::Closing
+}
+
+fn master_head(master: Master) -> [u8; 9]
+    ensures { λ r. ⌜ r ≡ masterHead master ⌝ }
+{
+    let state = master.state;
+    let phase = master.phase;
+    let high = master.ticks / 65536;
+    let low = master.ticks % 65536;
+    [
+        state_byte(state),
+        phase_byte(phase),
+        flag_byte(master.permission),
+        (master.delay / 256) as u8,
+        (master.delay % 256) as u8,
+        (high / 256) as u8,
+        (high % 256) as u8,
+        (low / 256) as u8,
+        (low % 256) as u8,
+    ]
+}
+
+fn holds_bytes(holds: [Hold; 16]) -> [u8; 48]
+    ensures { λ r. ⌜ r ≡ holdsBytes holds ⌝ }
+{
+    let mut bytes = [0; 48];
+    let mut k: usize = 0;
+    while k < 16 {
+        let hold = holds[k];
+        bytes[3 * k] = flag_byte(hold.held);
+        bytes[3 * k + 1] = (hold.age / 256) as u8;
+        bytes[3 * k + 2] = (hold.age % 256) as u8;
+        k += 1;
+    }
+    bytes
+}
+
+// Puts a state at the front of a buffer.
+pub fn put_master(buffer: &mut [u8], master: Master)
+    ensures { λ _. ⌜ now (buffer .exit) ≡ sets (now (buffer .entry)) 0 (masterBytes master) ⌝ }
+{
+    let holds = master.holds;
+    let counts = master.counts;
+    let head = master_head(master);
+    let permissions = holds_bytes(holds);
+    put(buffer, 0, &head[..]);
+    put(buffer, 9, &permissions[..]);
+    put(buffer, 57, &counts[..]);
+}
+
+// Whether each permission has a flag. No exit, so that the loop is compiled to straight code.
+fn flags_right(bytes: &[u8]) -> bool
+    ensures { λ r. ⌜ r ≡ allTo (flagAt (now (bytes .entry))) 16 ⌝ }
+{
+    let mut right: bool = true;
+    let mut k: usize = 0;
+    while k < 16 {
+        right = right & (byte_at(bytes, 9 + 3 * k) < 2);
+        k += 1;
+    }
+    right
+}
+
+fn is_master(bytes: &[u8]) -> bool
+    ensures { λ r. ⌜ r ≡ isMaster (now (bytes .entry)) ⌝ }
+{
+    (bytes.len() == crate::LENGTH)
+        & (byte_at(bytes, 0) < 3)
+        & (byte_at(bytes, 1) < 4)
+        & (byte_at(bytes, 2) < 2)
+        & flags_right(bytes)
+}
+
+fn hold_of(bytes: &[u8], k: usize) -> Hold
+    requires { ⌜ k < 16 ⌝ }
+    ensures { λ r. ⌜ r ≡ holdOf (now (bytes .entry)) k ⌝ }
+{
+    Hold {
+        held: byte_at(bytes, 9 + 3 * k) == 1,
+        age: number_at(bytes, 9 + 3 * k + 1),
+    }
+}
+
+fn holds_of(bytes: &[u8]) -> [Hold; 16]
+    ensures { λ r. ⌜ r ≡ holdsOf (now (bytes .entry)) ⌝ }
+{
+    let mut holds = [Master::NO_HOLD; 16];
+    let mut k: usize = 0;
+    while k < 16 {
+        holds[k] = hold_of(bytes, k);
+        k += 1;
+    }
+    holds
+}
+
+fn master_from(bytes: &[u8]) -> Master
+    ensures { λ r. ⌜ r ≡ masterFrom (now (bytes .entry)) ⌝ }
+{
+    let state = state_of(byte_at(bytes, 0));
+    let phase = phase_of(byte_at(bytes, 1));
+    let holds = holds_of(bytes);
+    let counts = table_at(bytes, 57);
+    Master {
+        state,
+        phase,
+        permission: byte_at(bytes, 2) == 1,
+        holds,
+        counts,
+        delay: number_at(bytes, 3),
+        ticks: long_number(number_at(bytes, 5), number_at(bytes, 7)),
+    }
+}
+
+// Out of range under every plan.
+fn no_master() -> Master
+    ensures { λ r. ⌜ r ≡ noMaster ⌝ }
+{
+    Master {
+        delay: 1,
+        ..Master::power_on()
+    }
+}
+
+// The master of bytes; of bytes that are no state one that each step refuses as 11.
+pub fn master_of(bytes: &[u8]) -> Master
+    ensures { λ r. ⌜ r ≡ masterOf (now (bytes .entry)) ⌝ }
+{
+    if is_master(bytes) {
+        master_from(bytes)
+    } else {
+        no_master()
+    }
+}

@@ -1,0 +1,37 @@
+-- The first bytes of a node's state, and all of them put into a buffer.
+use Prim.Native.Nat.{ℕ, _+_, _/_, _%_}
+use mathlib.Core.Path.{_≡_, refl, ap, sym, _∙_}
+use mathlib.Core.List.{List, [], _∷_, _++_}
+use lib.ListN.{length, getD}
+use lib.Seq.{sets}
+use native.Mathlib.Omega.{arith}
+use Rattle.folds.proofs.Stores.{sets-append}
+use Rattle.blocks.specs.Bytes.{highByte, lowByte, fourBytes}
+use Rattle.machine.specs.Bytes.{stateByte, flagByte}
+use Rattle.node.specs.declared.Delay.{Delay}
+use Rattle.node.specs.declared.Node.{Node}
+use Rattle.node_bytes.specs.States.{delayBytes, nodeHead, nodeBytes}
+
+-- those bytes one by one
+abbrev pub headList : Node → List ℕ
+headList n =
+    stateByte (n .state) ∷ flagByte (n .permission) ∷ flagByte (n .error) ∷ flagByte (n .wake) ∷ flagByte (n .heard) ∷ flagByte (n .caller)
+    ∷ highByte (n .quiet) ∷ lowByte (n .quiet) ∷ getD (delayBytes (n .delay)) 0 0 ∷ getD (delayBytes (n .delay)) 1 0 ∷ getD (delayBytes (n .delay)) 2 0
+    ∷ highByte (n .standby / 65536) ∷ lowByte (n .standby / 65536) ∷ highByte (n .standby % 65536) ∷ lowByte (n .standby % 65536) ∷ []
+
+pub head-listed : (n : Node) → headList n ≡ nodeHead n
+head-listed n = ap (λ l. stateByte (n .state) ∷ flagByte (n .permission) ∷ flagByte (n .error) ∷ flagByte (n .wake) ∷ flagByte (n .heard) ∷ flagByte (n .caller)
+    ∷ highByte (n .quiet) ∷ lowByte (n .quiet) ∷ l ++ fourBytes (n .standby)) (three (n .delay))
+  where
+    three : (d : Delay) → getD (delayBytes d) 0 0 ∷ getD (delayBytes d) 1 0 ∷ getD (delayBytes d) 2 0 ∷ [] ≡ delayBytes d
+    three Delay.Off = refl
+    three (Delay.On ticks) = refl
+
+pub head-long : (n : Node) → length (nodeHead n) ≡ 15
+head-long n = sym (ap length (head-listed n))
+
+pub node-put : (n : Node) (buffer head x y : List ℕ) → head ≡ nodeHead n → x ≡ sets buffer 0 head → y ≡ sets x 15 (n .counts) → y ≡ sets buffer 0 (nodeBytes n)
+unfolding nodeBytes
+node-put n buffer head x y h e f =
+    let z : 0 + length (nodeHead n) ≡ 15 = omega (arith, head-long n) in
+    f ∙ rw (e, h, ← z) (sets-append (nodeHead n) (n .counts) buffer 0)

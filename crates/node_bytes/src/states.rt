@@ -1,0 +1,125 @@
+// A node's state as bytes.
+ghost use mathlib.Core.Path.{_≡_};
+ghost use lib.Seq.{sets};
+ghost use Rattle.node_bytes.specs.States.{delayBytes, delayOf, nodeHead, nodeBytes, isNode, nodeFrom, noNode, nodeOf};
+use blocks::byte_at;
+use blocks::long_number;
+use blocks::number_at;
+use blocks::put;
+use blocks::table_at;
+use machine::flag_byte;
+use machine::state_byte;
+use machine::state_of;
+use node::Delay;
+use node::Node;
+
+fn delay_bytes(delay: Delay) -> [u8; 3]
+    ensures { λ r. ⌜ r ≡ delayBytes delay ⌝ }
+{
+    match delay {
+        Delay::Off => [0, 0, 0],
+        Delay::On(ticks) => [1, (ticks / 256) as u8, (ticks % 256) as u8],
+    }
+}
+
+fn delay_of(runs: u8, ticks: u16) -> Delay
+    ensures { λ r. ⌜ r ≡ delayOf runs ticks ⌝ }
+{
+    if runs == 1 {
+        Delay::On(ticks)
+    } else {
+        Delay::Off
+    }
+}
+
+fn node_head(node: Node) -> [u8; 15]
+    ensures { λ r. ⌜ r ≡ nodeHead node ⌝ }
+{
+    let state = node.state;
+    let delay = node.delay;
+    let high = node.standby / 65536;
+    let low = node.standby % 65536;
+    let ticks = delay_bytes(delay);
+    [
+        state_byte(state),
+        flag_byte(node.permission),
+        flag_byte(node.error),
+        flag_byte(node.wake),
+        flag_byte(node.heard),
+        flag_byte(node.caller),
+        (node.quiet / 256) as u8,
+        (node.quiet % 256) as u8,
+        ticks[0],
+        ticks[1],
+        ticks[2],
+        (high / 256) as u8,
+        (high % 256) as u8,
+        (low / 256) as u8,
+        (low % 256) as u8,
+    ]
+}
+
+// Puts a state at the front of a buffer.
+pub fn put_node(buffer: &mut [u8], node: Node)
+    ensures { λ _. ⌜ now (buffer .exit) ≡ sets (now (buffer .entry)) 0 (nodeBytes node) ⌝ }
+{
+    let counts = node.counts;
+    let head = node_head(node);
+    put(buffer, 0, &head[..]);
+    put(buffer, 15, &counts[..]);
+}
+
+fn is_node(bytes: &[u8]) -> bool
+    ensures { λ r. ⌜ r ≡ isNode (now (bytes .entry)) ⌝ }
+{
+    (bytes.len() == crate::LENGTH)
+        & (byte_at(bytes, 0) < 3)
+        & (byte_at(bytes, 1) < 2)
+        & (byte_at(bytes, 2) < 2)
+        & (byte_at(bytes, 3) < 2)
+        & (byte_at(bytes, 4) < 2)
+        & (byte_at(bytes, 5) < 2)
+        & (byte_at(bytes, 8) < 2)
+        & ((byte_at(bytes, 8) == 1) | (number_at(bytes, 9) == 0))
+}
+
+fn node_from(bytes: &[u8]) -> Node
+    ensures { λ r. ⌜ r ≡ nodeFrom (now (bytes .entry)) ⌝ }
+{
+    let state = state_of(byte_at(bytes, 0));
+    let delay = delay_of(byte_at(bytes, 8), number_at(bytes, 9));
+    let counts = table_at(bytes, 15);
+    Node {
+        state,
+        permission: byte_at(bytes, 1) == 1,
+        error: byte_at(bytes, 2) == 1,
+        wake: byte_at(bytes, 3) == 1,
+        heard: byte_at(bytes, 4) == 1,
+        caller: byte_at(bytes, 5) == 1,
+        quiet: number_at(bytes, 6),
+        delay,
+        standby: long_number(number_at(bytes, 11), number_at(bytes, 13)),
+        counts,
+    }
+}
+
+// Out of range under every plan.
+fn no_node() -> Node
+    ensures { λ r. ⌜ r ≡ noNode ⌝ }
+{
+    Node {
+        standby: 1,
+        ..Node::power_on()
+    }
+}
+
+// The node of bytes; of bytes that are no state one that each step refuses as 11.
+pub fn node_of(bytes: &[u8]) -> Node
+    ensures { λ r. ⌜ r ≡ nodeOf (now (bytes .entry)) ⌝ }
+{
+    if is_node(bytes) {
+        node_from(bytes)
+    } else {
+        no_node()
+    }
+}

@@ -1,0 +1,98 @@
+// A packed plan record: the record's values as bytes, for callers that hold no record.
+ghost use mathlib.Core.Path.{_≡_};
+ghost use lib.ListN.{length};
+ghost use Rattle.folds.specs.Fold.{tab};
+ghost use Rattle.reader.specs.Record.{recordEntry, recordRow, recordOf, readRecord};
+use crate::ReadAnswer;
+use crate::layout;
+use crate::refuse;
+use blocks::byte_at;
+use blocks::number_at;
+use plan::NodeEntry;
+use plan::Plan;
+use plan::Row;
+use plan::plan_refusal;
+
+// The length is known, so that each loop is compiled to a copy of its bytes.
+fn record_nodes(bytes: &[u8]) -> [NodeEntry; 16]
+    requires { ⌜ length (now bytes) ≡ 591 ⌝ }
+    ensures { λ r. ⌜ r ≡ tab 16 (recordEntry (now (bytes .entry))) ⌝ }
+{
+    let zero = NodeEntry {
+        address: 0,
+        class: 0,
+        method: 0,
+        reserved: 0,
+    };
+    let mut nodes = [zero; 16];
+    let mut k: usize = 0;
+    while k < 16 {
+        nodes[k] = NodeEntry {
+            address: bytes[19 + 4 * k],
+            class: bytes[19 + 4 * k + 1],
+            method: bytes[19 + 4 * k + 2],
+            reserved: bytes[19 + 4 * k + 3],
+        };
+        k += 1;
+    }
+    nodes
+}
+
+fn record_rows(bytes: &[u8]) -> [Row; 127]
+    requires { ⌜ length (now bytes) ≡ 591 ⌝ }
+    ensures { λ r. ⌜ r ≡ tab 127 (recordRow (now (bytes .entry))) ⌝ }
+{
+    let zero = Row {
+        reqid: 0,
+        publisher: 0,
+        length: 0,
+        kind: 0,
+    };
+    let mut rows = [zero; 127];
+    let mut j: usize = 0;
+    while j < 127 {
+        rows[j] = Row {
+            reqid: bytes[83 + 4 * j],
+            publisher: bytes[83 + 4 * j + 1],
+            length: bytes[83 + 4 * j + 2],
+            kind: bytes[83 + 4 * j + 3],
+        };
+        j += 1;
+    }
+    rows
+}
+
+// The plan of a packed record, whether or not it keeps the rules; the all-zero one of bytes of another length.
+pub fn record_of(bytes: &[u8]) -> Plan
+    ensures { λ r. ⌜ r ≡ recordOf (now (bytes .entry)) ⌝ }
+{
+    if bytes.len() != Plan::LENGTH {
+        return Plan::zero();
+    }
+    let times = layout::times_from(bytes, 5);
+    let nodes = record_nodes(bytes);
+    let rows = record_rows(bytes);
+    Plan {
+        revision: number_at(bytes, 0),
+        nodecount: byte_at(bytes, 2),
+        times,
+        nodes,
+        rowcount: number_at(bytes, 3),
+        rows,
+    }
+}
+
+// The plan of a packed record that keeps the rules, or the number of the first one that it breaks with the all-zero record.
+pub fn read_record(bytes: &[u8]) -> ReadAnswer
+    ensures { λ r. ⌜ r ≡ readRecord (now (bytes .entry)) ⌝ }
+{
+    if bytes.len() != Plan::LENGTH {
+        return refuse(1);
+    }
+    let plan = record_of(bytes);
+    let refusal = plan_refusal(plan);
+    if refusal != 0 {
+        return refuse(refusal);
+    }
+    ReadAnswer { refusal: 0, plan }
+}
