@@ -7,7 +7,7 @@ use native.Mathlib.Numerals.{add-one}
 use Rattle.folds.proofs.Choices.{no-way}
 use Rattle.node.specs.declared.Command.{Command}
 use Rattle.bus.specs.declared.Callers.{Callers}
-use Rattle.bus.specs.Pulses.{withCaller, callersTo, anyCalled, otherCalled}
+use Rattle.bus.specs.Pulses.{withCaller, callersTo, anyCalled}
 
 -- one node more
 pub callers-more : (command : ℕ → Command) (i : ℕ) (callers r : Callers) (c : Command) → callers ≡ callersTo command i → c ≡ command i → r ≡ withCaller callers i c → r ≡ callersTo command (i + 1)
@@ -28,9 +28,3 @@ callers-some command (suc n) e = go (command n) refl e (callers-some command n)
     go Command.Nothing q h r = earlier (r h)
     go Command.Pulse q h r = (n, omega arith, q)
     go (Command.Send permission wake count) q h r = earlier (r h)
-
--- another called, so someone did
-pub other-any : (callers : Callers) (me : ℕ) → otherCalled callers me ≡ true → anyCalled callers ≡ true
-other-any Callers.Nobody me e = e
-other-any (Callers.One caller) me e = refl
-other-any Callers.Several me e = refl

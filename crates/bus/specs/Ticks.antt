@@ -26,8 +26,8 @@ abbrev pub tickNodes : Times → Bool → ℕ → List Node → Ticked
 tickNodes t clock count nodes = record { nodes = tickedNodes t clock count nodes; callers = tickCallers t clock count nodes }
 
 -- the master's reply to its tick, then the nodes
-abbrev pub tickAfter : Times → ℕ → Bus → Reply → Ticked → Outcome
-tickAfter t count bus reply nodes =
+abbrev pub tickAfter : ℕ → Bus → Reply → Ticked → Outcome
+tickAfter count bus reply nodes =
     record {
       world = spread count (nodes .callers) bus (record { master = reply .master; nodes = nodes .nodes });
       refusal = reply .refusal;
@@ -36,4 +36,4 @@ tickAfter t count bus reply nodes =
 
 abbrev pub tickMove : Times → ℕ → Bus → World → Outcome
 tickMove t count bus w =
-    tickAfter t count bus (MasterTicks.tickStep t (w .master)) (tickNodes t (clockOn (MasterTicks.tickStep t (w .master) .master)) count (w .nodes))
+    tickAfter count bus (MasterTicks.tickStep t (w .master)) (tickNodes t (clockOn (MasterTicks.tickStep t (w .master) .master)) count (w .nodes))
