@@ -97,3 +97,14 @@ pub any-ext : (f g : ℕ → Bool) (n : ℕ) → ((i : ℕ) → i < n → f i �
 unfolding anyTo
 any-ext f g zero h = refl
 any-ext f g (suc n) h = rw (any-ext f g n (λ i p. h i (omega arith)), h n (omega arith))
+
+-- where it holds of none it fails of each
+pub any-at : (f : ℕ → Bool) (n : ℕ) → anyTo f n ≡ false → (i : ℕ) → i < n → f i ≡ false
+unfolding anyTo
+any-at f zero e i p = absurd (omega arith)
+any-at f (suc n) e i p = go (anyTo f n) refl (f n) refl (any-at f n)
+  where
+    go : (a : Bool) → anyTo f n ≡ a → (b : Bool) → f n ≡ b → (anyTo f n ≡ false → (j : ℕ) → j < n → f j ≡ false) → f i ≡ false
+    go false q false r rest = ⊎-elim (λ l. rest q i l) (λ l. rw l r) (below-cases i n p)
+    go false q true r rest = let z : _≡_ {A = ℕ} 0 1 = cc (rw (q, r) at e) in absurd (omega arith)
+    go true q b r rest = let z : _≡_ {A = ℕ} 0 1 = cc (rw q at e) in absurd (omega arith)

@@ -5,7 +5,7 @@ use mathlib.Core.Bool.{Bool, true, false}
 use mathlib.Core.Logic.{⊎-elim}
 use native.Mathlib.Omega.{arith}
 use Rattle.folds.specs.Fold.{anyTo, firstTo}
-use Rattle.folds.proofs.AllAny.{below-cases, any-next}
+use Rattle.folds.proofs.AllAny.{below-cases, any-next, any-at}
 
 module _ (f : ℕ → Bool) where
   -- none so far, none at n
@@ -59,3 +59,11 @@ module _ (f : ℕ → Bool) where
       go true p b q ih = rw p (ih (any-below n p))
       go false p true q ih = rw (p, q) q
       go false p false q ih = let z : suc n < suc n = rw (p, q) at l in absurd (omega arith)
+
+  -- where none below the bound is the first, the test fails of each
+  pub first-past : (n : ℕ) → n ≤ firstTo f n → (i : ℕ) → i < n → f i ≡ false
+  first-past n l = go (anyTo f n) refl
+    where
+      go : (a : Bool) → anyTo f n ≡ a → (i : ℕ) → i < n → f i ≡ false
+      go true e = absurd (omega (arith, any-below n e))
+      go false e = any-at f n e

@@ -1,6 +1,6 @@
 -- Answers that reach the master.
 use Prim.Native.Nat.{ℕ, _+_, _-_, _%_}
-use mathlib.Core.Bool.{Bool}
+use mathlib.Core.Bool.{Bool, _&&_}
 use lib.Dec.{ltb, eqb}
 use lib.ListN.{getD, set}
 use Rattle.folds.specs.Fold.{pick}
@@ -13,6 +13,10 @@ use Rattle.master.specs.declared.Answer.{Answer}
 use Rattle.master.specs.declared.Master.{Master}
 use Rattle.master.specs.declared.Reply.{Reply}
 use Rattle.master.specs.Changes.{withCounts, letGo, letAllGo, hold, callBack, refuse}
+
+-- "Whole: an answer that reached the master with result 0 and a length its row accepts"
+abbrev pub isWhole : Row → Answer → Bool
+isWhole row a = eqb (a .result) 0 && accepts row (a .length)
 
 -- "13 or 14: let the publisher's permission go, call back"
 abbrev pub damaged : ℕ → ℕ → Master → Reply

@@ -1,0 +1,94 @@
+-- The ticks at the end of a past, counted move by move.
+use Prim.Native.Nat.{ℕ, suc, _≤_}
+use mathlib.Core.Path.{_≡_, sym, subst}
+use mathlib.Core.Bool.{Bool, true, false, not}
+use mathlib.Core.List.{List, [], _∷_, _++_}
+use lib.ListN.{getD}
+use native.Mathlib.Omega.{arith}
+use Rattle.folds.specs.Fold.{pick}
+use Rattle.folds.proofs.AllAny.{and-l, and-r}
+use Rattle.folds.proofs.Choices.{no-way}
+use Rattle.bus.specs.World.{Passed, ticked, asked, masterPermits, nodePermits, answered, sending, slept, nothing}
+use Rattle.demand.specs.Demand3.{ClockFor}
+use Rattle.demand.specs.Words.{every, none, onTick, ticksIn, leavesOn, leavesOff, isAsk, reaches}
+
+-- after each of which the clock was on, none of them before a sleep message that reached node i
+abbrev onStep : ℕ → Passed → ℕ → ℕ
+onStep i (ticked clock stop pulse) k = pick clock (suc k) 0
+onStep i (asked wakes) k = k
+onStep i (masterPermits word) k = k
+onStep i (nodePermits node word) k = k
+onStep i (answered row a) k = k
+onStep i sending k = k
+onStep i (slept nodes) k = pick (getD nodes i false) 0 k
+onStep i nothing k = k
+
+abbrev pub onFor : ℕ → List Passed → ℕ
+onFor i [] = 0
+onFor i (e ∷ past) = onStep i e (onFor i past)
+
+-- after each of which the clock was off, none of them before an ask to wake
+abbrev offStep : Passed → ℕ → ℕ
+offStep (ticked clock stop pulse) k = pick clock 0 (suc k)
+offStep (asked wakes) k = 0
+offStep (masterPermits word) k = k
+offStep (nodePermits node word) k = k
+offStep (answered row a) k = k
+offStep sending k = k
+offStep (slept nodes) k = k
+offStep nothing k = k
+
+abbrev pub offFor : List Passed → ℕ
+offFor [] = 0
+offFor (e ∷ past) = offStep e (offFor past)
+
+-- a tick more
+abbrev pub plus : Passed → ℕ → ℕ
+plus e k = onTick (λ clock stop. suc k) k e
+
+on-entry : (i : ℕ) (e : Passed) (k j : ℕ) → leavesOn e ≡ true → not (reaches i e) ≡ true → k ≤ j → plus e k ≤ onStep i e j
+on-entry i (ticked true stop pulse) k j c r l = omega arith
+on-entry i (ticked false stop pulse) k j c r l = no-way c
+on-entry i (asked wakes) k j c r l = l
+on-entry i (masterPermits word) k j c r l = l
+on-entry i (nodePermits node word) k j c r l = l
+on-entry i (answered row a) k j c r l = l
+on-entry i sending k j c r l = l
+on-entry i (slept nodes) k j c r l = go (getD nodes i false) r
+  where
+    go : (b : Bool) → not b ≡ true → k ≤ pick b 0 j
+    go true q = no-way q
+    go false q = l
+on-entry i nothing k j c r l = l
+
+off-entry : (e : Passed) (k j : ℕ) → leavesOff e ≡ true → not (isAsk e) ≡ true → k ≤ j → plus e k ≤ offStep e j
+off-entry (ticked true stop pulse) k j c r l = no-way c
+off-entry (ticked false stop pulse) k j c r l = omega arith
+off-entry (asked wakes) k j c r l = no-way r
+off-entry (masterPermits word) k j c r l = l
+off-entry (nodePermits node word) k j c r l = l
+off-entry (answered row a) k j c r l = l
+off-entry sending k j c r l = l
+off-entry (slept nodes) k j c r l = l
+off-entry nothing k j c r l = l
+
+on-ticks : (i : ℕ) (recent earlier : List Passed) → every leavesOn recent ≡ true → none (reaches i) recent ≡ true → ticksIn recent ≤ onFor i (recent ++ earlier)
+on-ticks i [] earlier c r = omega arith
+on-ticks i (e ∷ recent) earlier c r =
+    on-entry i e (ticksIn recent) (onFor i (recent ++ earlier)) (and-l (leavesOn e) (every leavesOn recent) c) (and-l (not (reaches i e)) (none (reaches i) recent) r)
+    (on-ticks i recent earlier (and-r (leavesOn e) (every leavesOn recent) c) (and-r (not (reaches i e)) (none (reaches i) recent) r))
+
+off-ticks : (recent earlier : List Passed) → every leavesOff recent ≡ true → none isAsk recent ≡ true → ticksIn recent ≤ offFor (recent ++ earlier)
+off-ticks [] earlier c r = omega arith
+off-ticks (e ∷ recent) earlier c r =
+    off-entry e (ticksIn recent) (offFor (recent ++ earlier)) (and-l (leavesOff e) (every leavesOff recent) c) (and-l (not (isAsk e)) (none isAsk recent) r)
+    (off-ticks recent earlier (and-r (leavesOff e) (every leavesOff recent) c) (and-r (not (isAsk e)) (none isAsk recent) r))
+
+-- on, or off, for n ticks: so many are counted at least
+pub on-counted : (i n : ℕ) (past : List Passed) (on : ClockFor leavesOn n past) → none (reaches i) (on .recent) ≡ true → n ≤ onFor i past
+on-counted i n past on r =
+    subst (λ (l : List Passed). n ≤ onFor i l) (sym (on .split)) (subst (λ (k : ℕ). k ≤ onFor i (on .recent ++ on .earlier)) (on .ticks) (on-ticks i (on .recent) (on .earlier) (on .clock) r))
+
+pub off-counted : (n : ℕ) (past : List Passed) (off : ClockFor leavesOff n past) → none isAsk (off .recent) ≡ true → n ≤ offFor past
+off-counted n past off r =
+    subst (λ (l : List Passed). n ≤ offFor l) (sym (off .split)) (subst (λ (k : ℕ). k ≤ offFor (off .recent ++ off .earlier)) (off .ticks) (off-ticks (off .recent) (off .earlier) (off .clock) r))

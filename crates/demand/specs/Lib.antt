@@ -1,0 +1,4 @@
+pub mod Demand3
+pub mod Examples
+pub mod Run
+pub mod Words
