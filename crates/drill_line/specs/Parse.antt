@@ -7,6 +7,7 @@ use Rattle.folds.specs.Fold.{pick}
 use Rattle.text.specs.Text.{ascii}
 use Rattle.drill_line.specs.Words.{same, words, numberOf}
 use Rattle.drill_line.specs.declared.Line.{Line}
+use Rattle.drill_line.specs.declared.DrillMove.{DrillMove}
 use Rattle.drill_line.specs.declared.Fate.{Fate}
 use Rattle.drill_line.specs.declared.FateWord.{FateWord}
 use Rattle.drill_line.specs.declared.Who.{Who}
@@ -25,23 +26,23 @@ fateOf w =
 
 -- `tick`; `sleep`
 abbrev pub oneWord : List ℕ → Line
-oneWord w = pick (same w (ascii "tick")) Line.Tick (pick (same w (ascii "sleep")) Line.Sleep Line.Bad)
+oneWord w = pick (same w (ascii "tick")) (Line.Move DrillMove.Tick) (pick (same w (ascii "sleep")) (Line.Move DrillMove.Sleep) Line.Bad)
 
 abbrev pub wakeOf : Who → Line
-wakeOf (Who.Node node) = Line.WakeNode node
-wakeOf Who.Master = Line.WakeMaster
+wakeOf (Who.Node node) = Line.Move (DrillMove.WakeNode node)
+wakeOf Who.Master = Line.Move DrillMove.WakeMaster
 wakeOf Who.Nobody = Line.Bad
 
 abbrev pub sentOf : List ℕ → Line
-sentOf result = pick (same result (ascii "ok")) (Line.Sent true) (pick (same result (ascii "fail")) (Line.Sent false) Line.Bad)
+sentOf result = pick (same result (ascii "ok")) (Line.Move (DrillMove.Sent true)) (pick (same result (ascii "fail")) (Line.Move (DrillMove.Sent false)) Line.Bad)
 
 -- `wake X`; `sent ok` or `sent fail`
 abbrev pub twoWords : List ℕ → List ℕ → ℕ → Line
 twoWords w x nodecount = pick (same w (ascii "wake")) (wakeOf (whoOf x nodecount)) (pick (same w (ascii "sent")) (sentOf x) Line.Bad)
 
 abbrev pub permitWho : Who → Bool → Line
-permitWho (Who.Node node) permitted = Line.PermitNode node permitted
-permitWho Who.Master permitted = Line.PermitMaster permitted
+permitWho (Who.Node node) permitted = Line.Move (DrillMove.PermitNode node permitted)
+permitWho Who.Master permitted = Line.Move (DrillMove.PermitMaster permitted)
 permitWho Who.Nobody permitted = Line.Bad
 
 abbrev pub permitOf : Who → List ℕ → Line
@@ -49,7 +50,7 @@ permitOf who permission = pick (same permission (ascii "0")) (permitWho who fals
 
 -- "R 0 to 127"
 abbrev pub requestOf : ℕ → FateWord → Line
-requestOf reqid (FateWord.Is fate) = pick (ltb 127 reqid) Line.Bad (Line.Request reqid fate)
+requestOf reqid (FateWord.Is fate) = pick (ltb 127 reqid) Line.Bad (Line.Move (DrillMove.Request reqid fate))
 requestOf reqid FateWord.Unknown = Line.Bad
 
 -- `permit X 0` or `1`; `req R H`
@@ -59,7 +60,7 @@ threeWords w x y nodecount =
 
 -- "(not m)"
 abbrev pub sendWho : Who → ℕ → Fate → Line
-sendWho (Who.Node node) reqid fate = Line.Send node reqid fate
+sendWho (Who.Node node) reqid fate = Line.Move (DrillMove.Send node reqid fate)
 sendWho Who.Master reqid fate = Line.Bad
 sendWho Who.Nobody reqid fate = Line.Bad
 

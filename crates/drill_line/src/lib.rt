@@ -26,7 +26,7 @@ pub enum Who {
     Nobody,
 }
 
-pub enum Line {
+pub enum DrillMove {
     Tick,
     WakeNode(u8),
     WakeMaster,
@@ -39,7 +39,10 @@ pub enum Line {
     Sleep,
     // whether the sleep message was sent
     Sent(bool),
-    // no move
+}
+
+pub enum Line {
+    Move(DrillMove),
     Bad,
 }
 
@@ -173,10 +176,10 @@ fn one_word(first: &[u8]) -> Line
     ensures { λ r. ⌜ r ≡ oneWord (now (first .entry)) ⌝ }
 {
     if same(first, b"tick") {
-        return Line::Tick;
+        return Line::Move(DrillMove::Tick);
     }
     if same(first, b"sleep") {
-        return Line::Sleep;
+        return Line::Move(DrillMove::Sleep);
     }
     Line::Bad
 }
@@ -185,8 +188,8 @@ fn wake(who: Who) -> Line
     ensures { λ r. ⌜ r ≡ wakeOf who ⌝ }
 {
     match who {
-        Who::Node(node) => Line::WakeNode(node),
-        Who::Master => Line::WakeMaster,
+        Who::Node(node) => Line::Move(DrillMove::WakeNode(node)),
+        Who::Master => Line::Move(DrillMove::WakeMaster),
         Who::Nobody => Line::Bad,
     }
 }
@@ -195,10 +198,10 @@ fn sent(result: &[u8]) -> Line
     ensures { λ r. ⌜ r ≡ sentOf (now (result .entry)) ⌝ }
 {
     if same(result, b"ok") {
-        return Line::Sent(true);
+        return Line::Move(DrillMove::Sent(true));
     }
     if same(result, b"fail") {
-        return Line::Sent(false);
+        return Line::Move(DrillMove::Sent(false));
     }
     Line::Bad
 }
@@ -219,8 +222,8 @@ fn permit_who(who: Who, permitted: bool) -> Line
     ensures { λ r. ⌜ r ≡ permitWho who permitted ⌝ }
 {
     match who {
-        Who::Node(node) => Line::PermitNode(node, permitted),
-        Who::Master => Line::PermitMaster(permitted),
+        Who::Node(node) => Line::Move(DrillMove::PermitNode(node, permitted)),
+        Who::Master => Line::Move(DrillMove::PermitMaster(permitted)),
         Who::Nobody => Line::Bad,
     }
 }
@@ -245,7 +248,7 @@ fn request(reqid: u16, word: FateWord) -> Line
             if 127 < reqid {
                 Line::Bad
             } else {
-                Line::Request(reqid as u8, fate)
+                Line::Move(DrillMove::Request(reqid as u8, fate))
             }
         }
         FateWord::Unknown => Line::Bad,
@@ -268,7 +271,7 @@ fn send_who(who: Who, reqid: u8, fate: Fate) -> Line
     ensures { λ r. ⌜ r ≡ sendWho who reqid fate ⌝ }
 {
     match who {
-        Who::Node(node) => Line::Send(node, reqid, fate),
+        Who::Node(node) => Line::Move(DrillMove::Send(node, reqid, fate)),
         Who::Master => Line::Bad,
         Who::Nobody => Line::Bad,
     }
