@@ -35,11 +35,13 @@ act p m (Event.Permission permitted) = permissionStep permitted m
 act p m Event.SleepAsk = sleepAskStep (p .nodecount) m
 act p m (Event.SendResult sent) = sendResultStep sent m
 
--- "plan 4 to 8 first, then 11, 15, 16, then the rest by number"
-abbrev pub masterStep : Plan → Master → Event → Reply
-masterStep p m e =
-    pick (eqb (planRefusal p) 0)
-    (pick (inRange (p .nodecount) (p .times) m)
+-- "then 11, 15, 16, then the rest by number", where the plan is judged
+abbrev pub stepUnder : Plan → Master → Event → Reply
+stepUnder p m e =
+    pick (inRange (p .nodecount) (p .times) m)
     (pick (eventRight e) (act p m e) (refuse m 15))
-    (refuse m 11))
-    (refuse m (planRefusal p))
+    (refuse m 11)
+
+-- "plan 4 to 8 first"
+abbrev pub masterStep : Plan → Master → Event → Reply
+masterStep p m e = pick (eqb (planRefusal p) 0) (stepUnder p m e) (refuse m (planRefusal p))

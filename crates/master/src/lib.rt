@@ -1,7 +1,7 @@
 // The master machine.
 ghost use mathlib.Core.Path.{_≡_};
 ghost use Rattle.master.specs.Changes.{powerOn, silent, commands, refuse};
-ghost use Rattle.master.specs.Step.{eventRight, act, masterStep};
+ghost use Rattle.master.specs.Step.{eventRight, act, stepUnder, masterStep};
 use machine::State;
 use plan::Plan;
 use plan::plan_refusal;
@@ -156,7 +156,7 @@ impl Master {
     }
 
     // What an event does once plan, state and event are judged.
-    fn act(self, plan: Plan, event: Event) -> Reply
+    pub fn act(self, plan: Plan, event: Event) -> Reply
         ensures { λ r. ⌜ r ≡ act plan self event ⌝ }
     {
         match event {
@@ -176,22 +176,29 @@ impl Master {
         }
     }
 
+    // A step of the master under a plan that is judged.
+    pub fn step_under(self, plan: Plan, event: Event) -> Reply
+        ensures { λ r. ⌜ r ≡ stepUnder plan self event ⌝ }
+    {
+        let times = plan.times;
+        if self.in_range(plan.nodecount, times) {
+            if is_right(event) {
+                self.act(plan, event)
+            } else {
+                refuse(self, 15)
+            }
+        } else {
+            refuse(self, 11)
+        }
+    }
+
     // A step of the master under a plan.
     pub fn step(self, plan: Plan, event: Event) -> Reply
         ensures { λ r. ⌜ r ≡ masterStep plan self event ⌝ }
     {
         let refusal = plan_refusal(plan);
         if refusal == 0 {
-            let times = plan.times;
-            if self.in_range(plan.nodecount, times) {
-                if is_right(event) {
-                    self.act(plan, event)
-                } else {
-                    refuse(self, 15)
-                }
-            } else {
-                refuse(self, 11)
-            }
+            self.step_under(plan, event)
         } else {
             refuse(self, refusal)
         }

@@ -36,13 +36,15 @@ act p me n Event.SleepMessage = sleepMessageStep n
 act p me n (Event.Request reqid) = requestStep me (findRow p reqid) n
 act p me n (Event.SendAsk reqid) = sendAskStep me (isPolled p me) (findRow p reqid) n
 
--- "plan 4 to 8 first, then 11, 15, 16, then the rest by number"; 11 is a "state record or node number out of range"
-abbrev pub nodeStep : Plan → ℕ → Node → Event → Reply
-nodeStep p me n e =
-    pick (eqb (planRefusal p) 0)
-    (pick (ltb me (p .nodecount))
+-- "then 11, 15, 16, then the rest by number", where the plan is judged; 11 is a "state record or node number out of range"
+abbrev pub stepUnder : Plan → ℕ → Node → Event → Reply
+stepUnder p me n e =
+    pick (ltb me (p .nodecount))
     (pick (inRange (p .times) n)
     (pick (eventRight e) (act p me n e) (refuse n 15))
     (refuse n 11))
-    (refuse n 11))
-    (refuse n (planRefusal p))
+    (refuse n 11)
+
+-- "plan 4 to 8 first"
+abbrev pub nodeStep : Plan → ℕ → Node → Event → Reply
+nodeStep p me n e = pick (eqb (planRefusal p) 0) (stepUnder p me n e) (refuse n (planRefusal p))

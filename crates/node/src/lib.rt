@@ -1,7 +1,7 @@
 // The node machine.
 ghost use mathlib.Core.Path.{_≡_};
 ghost use Rattle.node.specs.Changes.{powerOn, toSleep, toNormal, toStandby, silent, calls, refuse};
-ghost use Rattle.node.specs.Step.{eventRight, act, nodeStep};
+ghost use Rattle.node.specs.Step.{eventRight, act, stepUnder, nodeStep};
 use machine::State;
 use plan::Lookup;
 use plan::Plan;
@@ -174,7 +174,7 @@ impl Node {
     }
 
     // What an event does once plan, state and event are judged.
-    fn act(self, plan: Plan, me: u8, event: Event) -> Reply
+    pub fn act(self, plan: Plan, me: u8, event: Event) -> Reply
         ensures { λ r. ⌜ r ≡ act plan me self event ⌝ }
     {
         match event {
@@ -194,26 +194,33 @@ impl Node {
         }
     }
 
+    // A step of node number `me` under a plan that is judged.
+    pub fn step_under(self, plan: Plan, me: u8, event: Event) -> Reply
+        ensures { λ r. ⌜ r ≡ stepUnder plan me self event ⌝ }
+    {
+        let times = plan.times;
+        if me < plan.nodecount {
+            if self.in_range(times) {
+                if is_right(event) {
+                    self.act(plan, me, event)
+                } else {
+                    refuse(self, 15)
+                }
+            } else {
+                refuse(self, 11)
+            }
+        } else {
+            refuse(self, 11)
+        }
+    }
+
     // A step of node number `me` under a plan.
     pub fn step(self, plan: Plan, me: u8, event: Event) -> Reply
         ensures { λ r. ⌜ r ≡ nodeStep plan me self event ⌝ }
     {
         let refusal = plan_refusal(plan);
         if refusal == 0 {
-            let times = plan.times;
-            if me < plan.nodecount {
-                if self.in_range(times) {
-                    if is_right(event) {
-                        self.act(plan, me, event)
-                    } else {
-                        refuse(self, 15)
-                    }
-                } else {
-                    refuse(self, 11)
-                }
-            } else {
-                refuse(self, 11)
-            }
+            self.step_under(plan, me, event)
         } else {
             refuse(self, refusal)
         }

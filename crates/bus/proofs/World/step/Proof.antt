@@ -1,0 +1,60 @@
+use borrow.Author.Needs.{needs}
+use borrow.Author.Tests.{eq-eqb, ne-eqb}
+use Rattle.bus.proofs.World.step.Statement.{statement}
+use Rattle.bus.proofs.World.step.Tie as tie
+
+plan-refusal-requires : tie.Need-plan-refusal-requires
+plan-refusal-requires c κs = search needs
+
+in-range-requires : tie.Need-in-range-requires
+in-range-requires c κs = search needs
+
+act-requires : tie.Need-act-requires
+act-requires c κs = search needs
+
+stays-requires : tie.Need-stays-requires
+stays-requires c κs = search needs
+
+stays-requires-2 : tie.Need-stays-requires-2
+stays-requires-2 c κs = search needs
+
+returns : tie.Need-returns
+returns c =
+    rw (
+      c .act .ensures,
+      ← c .before .before .in-range .ensures,
+      ← c .before .before .before .before .before .plan-refusal .ensures,
+      eq-eqb _ _ (c .before .before .before .before .if1 .taken),
+      c .before .if2 .taken,
+    )
+
+returns-2 : tie.Need-returns-2
+returns-2 c =
+    rw (
+      c .stays .ensures,
+      ← c .before .before .in-range .ensures,
+      ← c .before .before .before .before .before .plan-refusal .ensures,
+      eq-eqb _ _ (c .before .before .before .before .if1 .taken),
+      c .before .if2 .left,
+    )
+
+returns-3 : tie.Need-returns-3
+returns-3 c =
+    rw (
+      c .stays2 .ensures,
+      ← c .before .before .plan-refusal .ensures,
+      ne-eqb _ _ (c .before .if1 .left),
+    )
+
+pub step-spec : {M : Type 1} → statement M
+step-spec =
+    tie.close
+    (tie.spec
+    plan-refusal-requires
+    in-range-requires
+    act-requires
+    stays-requires
+    stays-requires-2
+    returns
+    returns-2
+    returns-3)

@@ -1,0 +1,95 @@
+-- The nodes passed have ticked, and those of them that called are known. Assumes nothing.
+use Prim.Native.Nat.{ℕ, _-_, _≤_}
+use mathlib.Core.Path.{_≡_, refl, ap, _∙_}
+use native.Mathlib.Omega.{arith}
+use lib.ListN.{length}
+use Rattle.node.specs.declared.Node.{Node}
+use Rattle.node.specs.declared.Reply.{Reply}
+use Rattle.node.specs.Ticks.{tickStep}
+use Rattle.bus.specs.Ticks.{tickedNodes, tickCallers, tickNodes}
+use Rattle.bus.specs.World.{noNode}
+use Rattle.bus.proofs.EachOne.{each-more, each-next}
+use Rattle.bus.proofs.WhoCalls.{callers-more}
+use borrow.Author.Needs.{needs}
+use Rattle.bus.proofs.ticks.tick_nodes.Statement.{statement}
+use Rattle.bus.proofs.ticks.tick_nodes.Tie as tie
+
+abbrev Inv-loop : tie.InvT-loop
+Inv-loop count times clock ticked₀ callers₀ i₀ ticked callers i =
+    (i ≤ count) × (count ≤ 16) × (length ticked₀ ≡ 16) × (ticked ≡ tickedNodes times clock i ticked₀) × (callers ≡ tickCallers times clock i ticked₀)
+
+abbrev μ-loop : tie.MeasureT-loop
+μ-loop count times clock ticked₀ callers₀ i₀ ticked callers i = count - i
+
+loop-holds : tie.Need-loop-holds Inv-loop μ-loop
+loop-holds c = (search needs, search needs, search needs, refl, refl)
+
+cast-node : tie.Need-cast-node Inv-loop μ-loop
+cast-node c = search needs
+
+mul-node : tie.Need-mul-node Inv-loop μ-loop
+mul-node c = search needs
+
+array-copy-out-node : tie.Need-array-copy-out-node Inv-loop μ-loop
+array-copy-out-node c = search needs
+
+tick-requires : tie.Need-tick-requires Inv-loop μ-loop
+tick-requires c κs = search needs
+
+with-caller-requires : tie.Need-with-caller-requires Inv-loop μ-loop
+with-caller-requires c κs = search needs
+
+cast-ticked : tie.Need-cast-ticked Inv-loop μ-loop
+cast-ticked c = search needs
+
+mul-ticked : tie.Need-mul-ticked Inv-loop μ-loop
+mul-ticked c = search needs
+
+array-set-from-ticked : tie.Need-array-set-from-ticked Inv-loop μ-loop
+array-set-from-ticked c = search needs
+
+add-i : tie.Need-add-i Inv-loop μ-loop
+add-i c = search needs
+
+loop-less : tie.Need-loop-less Inv-loop μ-loop
+loop-less c = search needs
+
+loop-again : tie.Need-loop-again Inv-loop μ-loop
+loop-again c =
+    let at = c .before .before .before .before .before .loop in
+    let a = c .before .before .before .before .before .before .args in
+    let told = c .before .before .tick .ensures in
+    let same = each-next _ (a .nodes) (at .ticked) (at .i) noNode (at .inv .3) in (
+      omega arith,
+      omega arith,
+      at .inv .2,
+      each-more _ _ _ _ _ _ (at .inv .3) (ap (λ (r : Reply). r .node) told),
+      callers-more _ _ _ _ _ (at .inv .4) (ap (λ (r : Reply). r .command) told ∙ ap (λ (n : Node). tickStep (a .times) (a .clock) n .command) same) (c .before .with-caller .ensures),
+    )
+
+returns : tie.Need-returns Inv-loop μ-loop
+returns c =
+    let at = c .before .loop in
+    let a = c .before .before .args in
+    let e : at .i ≡ a .count = omega (arith, c .loop-test .left) in
+    rw (at .inv .3, at .inv .4, e)
+
+pub tick-nodes-spec : {M : Type 1} → statement M
+tick-nodes-spec =
+    tie.close
+    (tie.spec
+    Inv-loop
+    μ-loop
+    loop-holds
+    cast-node
+    mul-node
+    array-copy-out-node
+    tick-requires
+    with-caller-requires
+    cast-ticked
+    mul-ticked
+    array-set-from-ticked
+    add-i
+    loop-less
+    loop-again
+    returns)

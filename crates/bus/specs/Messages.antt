@@ -1,0 +1,125 @@
+-- Requests, answers and the sleep message on the bus.
+use Prim.Native.Nat.{ℕ}
+use mathlib.Core.Bool.{Bool, true, false, not, _&&_}
+use lib.Dec.{ltb, eqb}
+use lib.ListN.{getD}
+use Rattle.folds.specs.Fold.{pick}
+use Rattle.machine.specs.declared.State.{State}
+use Rattle.machine.specs.State.{isNormal}
+use Rattle.plan.specs.declared.Lookup.{Lookup}
+use Rattle.plan.specs.declared.Plan.{Plan}
+use Rattle.plan.specs.declared.Row.{Row}
+use Rattle.plan.specs.Answers.{isPolled}
+use Rattle.plan.specs.Find.{findRow}
+use Rattle.node.specs.declared.Command as NodeCommand
+use Rattle.node.specs.declared.Reply as NodeReply
+use Rattle.node.specs.Sending.{requestStep, sendAskStep}
+use Rattle.master.specs.declared.Answer.{Answer}
+use Rattle.master.specs.declared.Command as MasterCommand
+use Rattle.master.specs.declared.Reply as MasterReply
+use Rattle.master.specs.Answers.{answerStep}
+use Rattle.master.specs.Sleeping.{sleepAskStep, sendResultStep}
+use Rattle.bus.specs.declared.Bus.{Bus}
+use Rattle.bus.specs.declared.Arrival.{Arrival}
+use Rattle.bus.specs.declared.Fate.{Fate}
+use Rattle.bus.specs.declared.Message.{Message}
+use Rattle.bus.specs.declared.World.{World}
+use Rattle.bus.specs.Owners.{ofNode}
+use Rattle.bus.specs.Pulses.{reachAll}
+use Rattle.bus.specs.World.{nodeAt, withMaster, withNodes, withNode, Passed, answered, sending, slept, nothing, Outcome, stays}
+
+-- "damaged (result not 0, ReqId kept, count still 0 to 3)"
+abbrev pub fateRight : Fate → Bool
+fateRight Fate.Whole = true
+fateRight (Fate.Damaged damage) = not (eqb (damage .result) 0) && ltb (damage .count) 4
+fateRight Fate.Lost = true
+
+-- 15 for no such move; "Without clock no request, answer or sleep message moves", 16
+abbrev pub messageRefusal : ℕ → Fate → State → ℕ
+messageRefusal reqid fate master = pick (ltb reqid 128) (pick (fateRight fate) (pick (isNormal master) 0 16) 15) 15
+
+-- "an answer reaches the master whole, damaged .. or not at all"
+abbrev pub carried : Fate → Row → NodeCommand.Command → Arrival
+carried fate row NodeCommand.Command.Nothing = Arrival.Nothing
+carried fate row NodeCommand.Command.Pulse = Arrival.Nothing
+carried Fate.Whole row (NodeCommand.Command.Send permission wake count) =
+    Arrival.Answer (record { reqid = row .reqid; result = 0; length = row .length; count = count; permission = permission; wake = wake })
+carried (Fate.Damaged damage) row (NodeCommand.Command.Send permission wake count) =
+    Arrival.Answer
+    (record { reqid = row .reqid; result = damage .result; length = damage .length; count = damage .count; permission = damage .permission; wake = damage .wake })
+carried Fate.Lost row (NodeCommand.Command.Send permission wake count) = Arrival.Nothing
+
+-- the master's reply to an answer
+abbrev pub answeredBy : Row → Answer → World → MasterReply.Reply → Outcome
+answeredBy row a w reply = record { world = withMaster (reply .master) w; refusal = reply .refusal; passed = answered row a }
+
+abbrev pub arrive : Row → World → Arrival → Outcome
+arrive row w Arrival.Nothing = stays w 0
+arrive row w (Arrival.Answer a) = answeredBy row a w (answerStep (Lookup.Found row) a (w .master))
+
+-- a publisher's reply goes on to the master: "The refusal .. is the acting or publishing machine's, else the master's"
+abbrev pub deliver : Row → Fate → NodeReply.Reply → World → Outcome
+deliver row fate reply w = pick (not (eqb (reply .refusal) 0)) (stays w (reply .refusal)) (arrive row w (carried fate row (reply .command)))
+
+-- "A request reaches any set of nodes"; "A master's row .. is heard and brings no answer"
+abbrev pub publish : ℕ → Row → Bus → World → Outcome
+publish count row bus w =
+    pick (ltb (row .publisher) count)
+    (pick (getD (bus .reached) (row .publisher) false)
+    (deliver row (bus .fate) (requestStep (row .publisher) (Lookup.Found row) (nodeAt (w .nodes) (row .publisher)))
+    (withNodes (reachAll (Message.Request (Lookup.Found row)) (bus .reached) count (w .nodes)) w))
+    (stays (withNodes (reachAll (Message.Request (Lookup.Found row)) (bus .reached) count (w .nodes)) w) 0))
+    (stays (withNodes (reachAll (Message.Request (Lookup.Found row)) (bus .reached) count (w .nodes)) w) 0)
+
+-- "then a ReqId not in the plan gives 12"
+abbrev pub requestBy : ℕ → Bus → World → Lookup → Outcome
+requestBy count bus w Lookup.Missing = stays w 12
+requestBy count bus w (Lookup.Found row) = publish count row bus w
+
+abbrev pub judgedMessage : ℕ → World → Outcome → Outcome
+judgedMessage refusal w o = pick (not (eqb refusal 0)) (stays w refusal) o
+
+abbrev pub requestMove : Plan → ℕ → ℕ → Bus → World → Outcome
+requestMove p count reqid bus w = judgedMessage (messageRefusal reqid (bus .fate) (w .master .state)) w (requestBy count bus w (findRow p reqid))
+
+abbrev pub sentBy : ℕ → Row → Fate → World → NodeReply.Reply → Outcome
+sentBy node row fate w reply = deliver row fate reply (withNode node (reply .node) w)
+
+-- a node's own sending of a row, which no other node hears
+abbrev pub sendRow : ℕ → Bool → Row → Fate → World → Outcome
+sendRow node polled row fate w = sentBy node row fate w (sendAskStep node polled (Lookup.Found row) (nodeAt (w .nodes) node))
+
+abbrev pub sendAskBy : ℕ → Bool → Fate → World → Lookup → Outcome
+sendAskBy node polled fate w Lookup.Missing = stays w 12
+sendAskBy node polled fate w (Lookup.Found row) = sendRow node polled row fate w
+
+abbrev pub sendAskMove : Plan → ℕ → ℕ → ℕ → Bus → World → Outcome
+sendAskMove p count node reqid bus w =
+    ofNode count node w
+    (judgedMessage (messageRefusal reqid (bus .fate) (w .master .state)) w (sendAskBy node (isPolled p node) (bus .fate) w (findRow p reqid)))
+
+-- "A sleep message's sending is the move in which its ask is accepted"
+abbrev pub sendingBy : MasterCommand.Command → Passed
+sendingBy MasterCommand.Command.Nothing = nothing
+sendingBy MasterCommand.Command.ClockOn = nothing
+sendingBy MasterCommand.Command.ClockOff = nothing
+sendingBy MasterCommand.Command.SleepMessage = sending
+
+abbrev pub sleepAskAfter : World → MasterReply.Reply → Outcome
+sleepAskAfter w reply = record { world = withMaster (reply .master) w; refusal = reply .refusal; passed = sendingBy (reply .command) }
+
+abbrev pub sleepAskMove : ℕ → World → Outcome
+sleepAskMove nodecount w = sleepAskAfter w (sleepAskStep nodecount (w .master))
+
+-- "it then awaits its result and reaches any set of nodes with the result"; "a refused `sent` reaches nobody"
+abbrev pub resultAfter : ℕ → Bus → World → MasterReply.Reply → Outcome
+resultAfter count bus w reply =
+    pick (not (eqb (reply .refusal) 0)) (stays w (reply .refusal))
+    (record {
+      world = record { master = reply .master; nodes = reachAll Message.SleepMessage (bus .reached) count (w .nodes) };
+      refusal = 0;
+      passed = slept (bus .reached);
+    })
+
+abbrev pub sendResultMove : ℕ → Bool → Bus → World → Outcome
+sendResultMove count sent bus w = resultAfter count bus w (sendResultStep sent (w .master))

@@ -1,0 +1,39 @@
+-- A tick: "master, nodes ascending, each seeing the clock as the master left it".
+use Prim.Native.Nat.{ℕ}
+use mathlib.Core.Bool.{Bool, _&&_}
+use mathlib.Core.List.{List}
+use Rattle.plan.specs.declared.Times.{Times}
+use Rattle.node.specs.declared.Node.{Node}
+use Rattle.node.specs.Ticks as NodeTicks
+use Rattle.master.specs.declared.Reply.{Reply}
+use Rattle.master.specs.Clock.{clockOn, isOff}
+use Rattle.master.specs.Ticks as MasterTicks
+use Rattle.bus.specs.declared.Bus.{Bus}
+use Rattle.bus.specs.declared.Callers.{Callers}
+use Rattle.bus.specs.declared.Ticked.{Ticked}
+use Rattle.bus.specs.declared.World.{World}
+use Rattle.bus.specs.Each.{eachTo}
+use Rattle.bus.specs.Pulses.{callersTo, anyCalled, spread}
+use Rattle.bus.specs.World.{nodeAt, ticked, Outcome}
+
+abbrev pub tickedNodes : Times → Bool → ℕ → List Node → List Node
+tickedNodes t clock count nodes = eachTo (λ k n. NodeTicks.tickStep t clock n .node) count nodes
+
+abbrev pub tickCallers : Times → Bool → ℕ → List Node → Callers
+tickCallers t clock count nodes = callersTo (λ k. NodeTicks.tickStep t clock (nodeAt nodes k) .command) count
+
+abbrev pub tickNodes : Times → Bool → ℕ → List Node → Ticked
+tickNodes t clock count nodes = record { nodes = tickedNodes t clock count nodes; callers = tickCallers t clock count nodes }
+
+-- the master's reply to its tick, then the nodes
+abbrev pub tickAfter : Times → ℕ → Bus → Reply → Ticked → Outcome
+tickAfter t count bus reply nodes =
+    record {
+      world = spread count (nodes .callers) bus (record { master = reply .master; nodes = nodes .nodes });
+      refusal = reply .refusal;
+      passed = ticked (clockOn (reply .master)) (isOff (reply .command)) (anyCalled (nodes .callers) && bus .master);
+    }
+
+abbrev pub tickMove : Times → ℕ → Bus → World → Outcome
+tickMove t count bus w =
+    tickAfter t count bus (MasterTicks.tickStep t (w .master)) (tickNodes t (clockOn (MasterTicks.tickStep t (w .master) .master)) count (w .nodes))

@@ -1,0 +1,171 @@
+// The master and its nodes on a bus: what a move does to them.
+ghost use mathlib.Core.Path.{_≡_};
+ghost use Rattle.bus.specs.World.{powerOn, moved, stays, nodesUsed};
+ghost use Rattle.bus.specs.Range.{worldInRange};
+ghost use Rattle.bus.specs.Moves.{worldAct, worldStep};
+use master::Answer;
+use master::Master;
+use node::Node;
+use plan::Lookup;
+use plan::Plan;
+use plan::plan_refusal;
+
+mod messages;
+mod owners;
+mod pulses;
+mod range;
+mod ticks;
+
+// All machines of a plan; nodes from its number on stay as they are.
+pub struct World {
+    pub master: Master,
+    pub nodes: [Node; 16],
+}
+
+pub enum Act {
+    Tick,
+    // an application's ask to wake
+    NodeWakeAsk(u8),
+    MasterWakeAsk,
+    // an application's permission to sleep
+    NodePermission { node: u8, permitted: bool },
+    MasterPermission(bool),
+    // the master's request of a ReqId
+    Request(u8),
+    // the application's ask to send a ReqId
+    SendAsk { node: u8, reqid: u8 },
+    // the application's ask to send the sleep message
+    SleepAsk,
+    // whether the sleep message was sent
+    SendResult(bool),
+}
+
+// What the bus made of a damaged answer, whose ReqId it keeps.
+pub struct Damage {
+    // not 0
+    pub result: u16,
+    pub length: u16,
+    // 0 to 3
+    pub count: u8,
+    pub permission: bool,
+    pub wake: bool,
+}
+
+// What becomes of an answer.
+pub enum Fate {
+    Whole,
+    Damaged(Damage),
+    Lost,
+}
+
+// What the bus does in a move.
+pub struct Bus {
+    // the nodes that a request or a sleep message reaches
+    pub reached: [bool; 16],
+    // the nodes that hear a wake-up pulse of another
+    pub hearing: [bool; 16],
+    // whether the master hears a wake-up pulse
+    pub master: bool,
+    pub fate: Fate,
+}
+
+pub struct Move {
+    pub act: Act,
+    pub bus: Bus,
+}
+
+pub struct Moved {
+    pub world: World,
+    pub refusal: u8,
+}
+
+// The nodes that sent a wake-up pulse in a move.
+pub enum Callers {
+    Nobody,
+    One(u8),
+    Several,
+}
+
+// What can reach several nodes.
+pub enum Message {
+    Pulse(Callers),
+    // a request, with what the plan has for its ReqId
+    Request(Lookup),
+    SleepMessage,
+}
+
+// The nodes after a tick, and those of them that sent a pulse in it.
+pub struct Ticked {
+    pub nodes: [Node; 16],
+    pub callers: Callers,
+}
+
+// What reaches the master of a node's sending.
+pub enum Arrival {
+    Nothing,
+    Answer(Answer),
+}
+
+fn stays(world: World, refusal: u8) -> Moved
+    ensures { λ r. ⌜ r ≡ moved (stays world refusal) ⌝ }
+{
+    Moved { world, refusal }
+}
+
+fn nodes_used(nodecount: u8) -> u8
+    ensures { λ r. ⌜ r ≡ nodesUsed nodecount ⌝ }
+{
+    if nodecount < 16 { nodecount } else { 16 }
+}
+
+impl World {
+    pub fn power_on() -> World
+        ensures { λ r. ⌜ r ≡ powerOn ⌝ }
+    {
+        let node = Node::power_on();
+        World {
+            master: Master::power_on(),
+            nodes: [node; 16],
+        }
+    }
+
+    // What a move does once plan and world are judged.
+    pub fn act(self, plan: Plan, movement: Move) -> Moved
+        ensures { λ r. ⌜ r ≡ moved (worldAct plan self movement) ⌝ }
+    {
+        let act = movement.act;
+        let bus = movement.bus;
+        let times = plan.times;
+        let count = nodes_used(plan.nodecount);
+        match act {
+            Act::Tick => self.tick(count, times, bus),
+            Act::NodeWakeAsk(node) => self.node_wake_ask(count, node, bus),
+            Act::MasterWakeAsk => self.master_wake_ask(),
+            Act::NodePermission { node, permitted } => {
+                self.node_permission(count, node, permitted)
+            }
+            Act::MasterPermission(permitted) => self.master_permission(permitted),
+            Act::Request(reqid) => self.request(plan, count, reqid, bus),
+            Act::SendAsk { node, reqid } => self.send_ask(plan, count, node, reqid, bus),
+            Act::SleepAsk => self.sleep_ask(plan.nodecount),
+            Act::SendResult(sent) => self.send_result(count, sent, bus),
+        }
+    }
+
+    // A move under a plan.
+    pub fn step(self, plan: Plan, movement: Move) -> Moved
+        ensures { λ r. ⌜ r ≡ worldStep plan self movement ⌝ }
+    {
+        let refusal = plan_refusal(plan);
+        if refusal == 0 {
+            let times = plan.times;
+            if self.in_range(plan.nodecount, times) {
+                self.act(plan, movement)
+            } else {
+                stays(self, 11)
+            }
+        } else {
+            stays(self, refusal)
+        }
+    }
+}

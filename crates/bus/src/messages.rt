@@ -1,0 +1,232 @@
+// Requests, answers and the sleep message.
+ghost use mathlib.Core.Path.{_≡_};
+ghost use Prim.Native.Nat.{_≤_, _<_};
+ghost use Rattle.bus.specs.World.{moved};
+ghost use Rattle.bus.specs.Messages.{fateRight, messageRefusal, carried, deliver, publish, requestMove, sendRow, sendAskBy, sendAskMove, sleepAskMove, sendResultMove};
+use crate::Arrival;
+use crate::Bus;
+use crate::Fate;
+use crate::Message;
+use crate::Moved;
+use crate::World;
+use crate::pulses::reach_all;
+use crate::stays;
+use crate::ticks::is_normal;
+use machine::State;
+use master::Answer;
+use node::Command;
+use node::Reply;
+use plan::Lookup;
+use plan::Plan;
+use plan::Row;
+
+fn fate_right(fate: Fate) -> bool
+    ensures { λ r. ⌜ r ≡ fateRight fate ⌝ }
+{
+    match fate {
+        Fate::Whole => true,
+        Fate::Damaged(damage) => !(damage.result == 0) & (damage.count < 4),
+        Fate::Lost => true,
+    }
+}
+
+// Whether a request or an answer can move at all.
+fn message_refusal(reqid: u8, fate: Fate, master: State) -> u8
+    ensures { λ r. ⌜ r ≡ messageRefusal reqid fate master ⌝ }
+{
+    if reqid < machine::REQIDS {
+        if fate_right(fate) {
+            if is_normal(master) { 0 } else { 16 }
+        } else {
+            15
+        }
+    } else {
+        15
+    }
+}
+
+fn carried(fate: Fate, row: Row, command: Command) -> Arrival
+    ensures { λ r. ⌜ r ≡ carried fate row command ⌝ }
+{
+    match command {
+        Command::Nothing => Arrival::Nothing,
+        Command::Pulse => Arrival::Nothing,
+        Command::Send {
+            permission,
+            wake,
+            count,
+        } => match fate {
+            Fate::Whole => Arrival::Answer(Answer {
+                reqid: row.reqid,
+                result: 0,
+                length: row.length as u16,
+                count,
+                permission,
+                wake,
+            }),
+            Fate::Damaged(damage) => Arrival::Answer(Answer {
+                reqid: row.reqid,
+                result: damage.result,
+                length: damage.length,
+                count: damage.count,
+                permission: damage.permission,
+                wake: damage.wake,
+            }),
+            Fate::Lost => Arrival::Nothing,
+        },
+    }
+}
+
+impl World {
+    // What a publisher sent goes on to the master; the world has the nodes as its step left them.
+    fn deliver(self, row: Row, fate: Fate, reply: Reply) -> Moved
+        ensures { λ r. ⌜ r ≡ moved (deliver row fate reply self) ⌝ }
+    {
+        if !(reply.refusal == 0) {
+            return stays(self, reply.refusal);
+        }
+        let command = reply.command;
+        match carried(fate, row, command) {
+            Arrival::Nothing => stays(self, 0),
+            Arrival::Answer(answer) => {
+                let master = self.master;
+                let told = master.answer(Lookup::Found(row), answer);
+                let next = told.master;
+                Moved {
+                    world: World {
+                        master: next,
+                        ..self
+                    },
+                    refusal: told.refusal,
+                }
+            }
+        }
+    }
+
+    // A request of a row reaches the nodes of a set; its publisher, if it is one of them, answers.
+    fn publish(self, count: u8, row: Row, bus: Bus) -> Moved
+        requires { ⌜ count ≤ 16 ⌝ }
+        ensures { λ r. ⌜ r ≡ moved (publish count row bus self) ⌝ }
+    {
+        let nodes = self.nodes;
+        let reached = bus.reached;
+        let fate = bus.fate;
+        let heard = reach_all(nodes, count, reached, Message::Request(Lookup::Found(row)));
+        let world = World {
+            nodes: heard,
+            ..self
+        };
+        let publisher = row.publisher;
+        if publisher < count {
+            if reached[publisher as usize] {
+                let asked = nodes[publisher as usize];
+                let reply = asked.request(publisher, Lookup::Found(row));
+                world.deliver(row, fate, reply)
+            } else {
+                stays(world, 0)
+            }
+        } else {
+            stays(world, 0)
+        }
+    }
+
+    pub(crate) fn request(self, plan: Plan, count: u8, reqid: u8, bus: Bus) -> Moved
+        requires { ⌜ count ≤ 16 ⌝ }
+        ensures { λ r. ⌜ r ≡ moved (requestMove plan count reqid bus self) ⌝ }
+    {
+        let master = self.master;
+        let state = master.state;
+        let fate = bus.fate;
+        let refusal = message_refusal(reqid, fate, state);
+        if !(refusal == 0) {
+            return stays(self, refusal);
+        }
+        match plan::find_row(plan, reqid) {
+            Lookup::Missing => stays(self, 12),
+            Lookup::Found(row) => self.publish(count, row, bus),
+        }
+    }
+
+    // A node's own sending of a row.
+    fn send(self, node: u8, polled: bool, row: Row, fate: Fate) -> Moved
+        requires { ⌜ node < 16 ⌝ }
+        ensures { λ r. ⌜ r ≡ moved (sendRow node polled row fate self) ⌝ }
+    {
+        let mut nodes = self.nodes;
+        let asked = nodes[node as usize];
+        let reply = asked.send_ask(node, polled, Lookup::Found(row));
+        let next = reply.node;
+        nodes[node as usize] = next;
+        let world = World { nodes, ..self };
+        world.deliver(row, fate, reply)
+    }
+
+    fn send_found(self, node: u8, polled: bool, row: Lookup, fate: Fate) -> Moved
+        requires { ⌜ node < 16 ⌝ }
+        ensures { λ r. ⌜ r ≡ moved (sendAskBy node polled fate self row) ⌝ }
+    {
+        match row {
+            Lookup::Missing => stays(self, 12),
+            Lookup::Found(found) => self.send(node, polled, found, fate),
+        }
+    }
+
+    pub(crate) fn send_ask(self, plan: Plan, count: u8, node: u8, reqid: u8, bus: Bus) -> Moved
+        requires { ⌜ count ≤ 16 ⌝ }
+        ensures { λ r. ⌜ r ≡ moved (sendAskMove plan count node reqid bus self) ⌝ }
+    {
+        let master = self.master;
+        let state = master.state;
+        let fate = bus.fate;
+        if node < count {
+            let refusal = message_refusal(reqid, fate, state);
+            if !(refusal == 0) {
+                return stays(self, refusal);
+            }
+            self.send_found(
+                node,
+                plan.is_polled(node),
+                plan::find_row(plan, reqid),
+                fate,
+            )
+        } else {
+            stays(self, 11)
+        }
+    }
+
+    pub(crate) fn sleep_ask(self, nodecount: u8) -> Moved
+        ensures { λ r. ⌜ r ≡ moved (sleepAskMove nodecount self) ⌝ }
+    {
+        let master = self.master;
+        let reply = master.sleep_ask(nodecount);
+        let next = reply.master;
+        Moved {
+            world: World {
+                master: next,
+                ..self
+            },
+            refusal: reply.refusal,
+        }
+    }
+
+    pub(crate) fn send_result(self, count: u8, sent: bool, bus: Bus) -> Moved
+        requires { ⌜ count ≤ 16 ⌝ }
+        ensures { λ r. ⌜ r ≡ moved (sendResultMove count sent bus self) ⌝ }
+    {
+        let master = self.master;
+        let nodes = self.nodes;
+        let reply = master.send_result(sent);
+        if !(reply.refusal == 0) {
+            return stays(self, reply.refusal);
+        }
+        let next = reply.master;
+        let reached = bus.reached;
+        Moved {
+            world: World {
+                master: next,
+                nodes: reach_all(nodes, count, reached, Message::SleepMessage),
+            },
+            refusal: 0,
+        }
+    }
+}

@@ -1,0 +1,34 @@
+// The limits of all machines' fields.
+ghost use mathlib.Core.Path.{_≡_};
+ghost use Prim.Native.Nat.{_≤_};
+ghost use Rattle.folds.specs.Fold.{allTo};
+ghost use Rattle.bus.specs.Range.{nodeInRange, worldInRange};
+use crate::World;
+use crate::nodes_used;
+use node::Node;
+use plan::Times;
+
+fn nodes_in_range(nodes: [Node; 16], count: u8, times: Times) -> bool
+    requires { ⌜ count ≤ 16 ⌝ }
+    ensures { λ r. ⌜ r ≡ allTo (nodeInRange times nodes) count ⌝ }
+{
+    let mut i: u8 = 0;
+    while i < count {
+        let node = nodes[i as usize];
+        if !node.in_range(times) {
+            return false;
+        }
+        i += 1;
+    }
+    true
+}
+
+impl World {
+    pub fn in_range(self, nodecount: u8, times: Times) -> bool
+        ensures { λ r. ⌜ r ≡ worldInRange nodecount times self ⌝ }
+    {
+        let master = self.master;
+        let nodes = self.nodes;
+        master.in_range(nodecount, times) & nodes_in_range(nodes, nodes_used(nodecount), times)
+    }
+}

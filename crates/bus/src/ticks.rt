@@ -1,0 +1,71 @@
+// A tick of all machines.
+ghost use mathlib.Core.Path.{_≡_};
+ghost use Prim.Native.Nat.{_≤_};
+ghost use Rattle.machine.specs.State.{isNormal};
+ghost use Rattle.bus.specs.World.{moved};
+ghost use Rattle.bus.specs.Ticks.{tickNodes, tickMove};
+use crate::Bus;
+use crate::Callers;
+use crate::Moved;
+use crate::Ticked;
+use crate::World;
+use crate::pulses::with_caller;
+use machine::State;
+use node::Node;
+use plan::Times;
+
+pub(crate) fn is_normal(state: State) -> bool
+    ensures { λ r. ⌜ r ≡ isNormal state ⌝ }
+{
+    match state {
+        State::Normal => true,
+        State::Standby => false,
+        State::Sleep => false,
+    }
+}
+
+fn tick_nodes(nodes: [Node; 16], count: u8, times: Times, clock: bool) -> Ticked
+    requires { ⌜ count ≤ 16 ⌝ }
+    ensures { λ r. ⌜ r ≡ tickNodes times clock count nodes ⌝ }
+{
+    let mut ticked = nodes;
+    let mut callers = Callers::Nobody;
+    let mut i: u8 = 0;
+    while i < count {
+        let node = ticked[i as usize];
+        let reply = node.tick(times, clock);
+        let command = reply.command;
+        callers = with_caller(callers, i, command);
+        let next = reply.node;
+        ticked[i as usize] = next;
+        i += 1;
+    }
+    Ticked {
+        nodes: ticked,
+        callers,
+    }
+}
+
+impl World {
+    pub(crate) fn tick(self, count: u8, times: Times, bus: Bus) -> Moved
+        requires { ⌜ count ≤ 16 ⌝ }
+        ensures { λ r. ⌜ r ≡ moved (tickMove times count bus self) ⌝ }
+    {
+        let master = self.master;
+        let before = self.nodes;
+        let reply = master.tick(times);
+        let next = reply.master;
+        let state = next.state;
+        let ticked = tick_nodes(before, count, times, is_normal(state));
+        let nodes = ticked.nodes;
+        let callers = ticked.callers;
+        let world = World {
+            master: next,
+            nodes,
+        };
+        Moved {
+            world: world.spread(count, callers, bus),
+            refusal: reply.refusal,
+        }
+    }
+}

@@ -1,0 +1,83 @@
+-- A node under a clock that stays on: Normal without error once it was on for S + 2 ticks.
+use Prim.Native.Nat.{ℕ, zero, suc, _+_, _≤_}
+use mathlib.Core.Path.{_≡_, refl, sym, _∙_}
+use mathlib.Core.Bool.{Bool, true, false}
+use lib.Dec.{ltb}
+use native.Mathlib.Omega.{arith}
+use borrow.Author.Tests.{ltb-true}
+use Rattle.folds.proofs.Choices.{by-test, no-way}
+use Rattle.machine.specs.declared.State.{State}
+use Rattle.plan.specs.declared.Times.{Times}
+use Rattle.node.specs.declared.Delay.{Delay}
+use Rattle.node.specs.declared.Node.{Node}
+use Rattle.node.specs.declared.Reply.{Reply}
+use Rattle.node.specs.Range.{delayRight}
+use Rattle.node.specs.Ticks.{tickStep}
+use Rattle.node.specs.Waking.{pulseStep, wakeAskStep, permissionStep}
+use Rattle.node.proofs.Cases.{split}
+use Rattle.node.proofs.ErrorShows.{ErrorShows, unshown}
+
+-- for how many ticks the clock can have been on: a delay runs to S, then two ticks lead from Sleep to Normal
+abbrev pub onAt : Times → ℕ → State → Delay → Type 0
+onAt t k State.Normal Delay.Off = Unit {0}
+onAt t k State.Normal (Delay.On ticks) = k ≤ ticks
+onAt t k State.Standby delay = k ≤ t .sleep + 1
+onAt t k State.Sleep delay = k ≤ t .sleep
+
+-- after k ticks with the clock on and no sleep message since the first of them
+abbrev pub ClockOn : Times → ℕ → Node → Type 0
+ClockOn t k n = (1 ≤ k → n .error ≡ false) × onAt t k (n .state) (n .delay)
+
+module _ (t : Times) where
+  pub on-none : (n : Node) → ClockOn t 0 n
+  on-none n = (λ l. absurd (omega arith), go (n .state) (n .delay))
+    where
+      go : (state : State) (delay : Delay) → onAt t 0 state delay
+      go State.Normal Delay.Off = tt
+      go State.Normal (Delay.On ticks) = omega arith
+      go State.Standby delay = omega arith
+      go State.Sleep delay = omega arith
+
+  module _ (k : ℕ) where
+    abbrev Kept : Reply → Type 0
+    Kept r = ClockOn t k (r .node)
+
+    pub on-tick : (n : Node) (state : State) (delay : Delay) → delayRight (t .sleep) delay ≡ true → ErrorShows t (split n state (n .caller) delay)
+        → ClockOn t k (split n state (n .caller) delay) → ClockOn t (suc k) (tickStep t true (split n state (n .caller) delay) .node)
+    on-tick n State.Normal Delay.Off d h o = (λ l. refl, tt)
+    on-tick n State.Normal (Delay.On ticks) d h o =
+        by-test (λ (r : Reply). ClockOn t (suc k) (r .node)) (ltb (ticks + 1) (t .sleep))
+        (λ l. (λ l. refl, omega arith))
+        (λ l. (λ l. refl, omega (arith, ltb-true ticks (t .sleep) d)))
+    on-tick n State.Standby delay d h o = (λ l. refl, tt)
+    on-tick n State.Sleep delay d h o = (λ l. unshown (n .error) h, omega arith)
+
+    pub on-pulse : (n : Node) (state : State) → ClockOn t k (split n state (n .caller) (n .delay)) → Kept (pulseStep (split n state (n .caller) (n .delay)))
+    on-pulse n State.Normal o = o
+    on-pulse n State.Standby o = o
+    on-pulse n State.Sleep o = (o .0, omega arith)
+
+    pub on-wake-ask : (n : Node) (state : State) (caller : Bool) → ClockOn t k (split n state caller (n .delay)) → Kept (wakeAskStep (split n state caller (n .delay)))
+    on-wake-ask n State.Normal caller o = o
+    on-wake-ask n State.Standby true o = o
+    on-wake-ask n State.Standby false o = o
+    on-wake-ask n State.Sleep caller o = (o .0, omega arith)
+
+    -- no error shows, so a yes puts no node to sleep
+    pub on-permission : (permitted : Bool) (n : Node) → ClockOn t k n → ClockOn t k (permissionStep permitted n .node)
+    on-permission permitted n o =
+        by-test Kept permitted (λ y. by-test Kept (n .error) (λ x. (λ l. refl, unslept k (o .0) x)) (λ x. o)) (λ y. o)
+      where
+        unslept : (k : ℕ) → (1 ≤ k → n .error ≡ false) → n .error ≡ true → k ≤ t .sleep
+        unslept zero f x = omega arith
+        unslept (suc k) f x = no-way (sym (f (omega arith)) ∙ x)
+
+    pub on-long : (n : Node) → t .sleep + 2 ≤ k → delayRight (t .sleep) (n .delay) ≡ true → ClockOn t k n
+        → (n .state ≡ State.Normal) × (n .error ≡ false) × (n .delay ≡ Delay.Off)
+    on-long n l d o = let at = go (n .state) (n .delay) d (o .1) in (at .0, o .0 (omega arith), at .1)
+      where
+        go : (state : State) (delay : Delay) → delayRight (t .sleep) delay ≡ true → onAt t k state delay → (state ≡ State.Normal) × (delay ≡ Delay.Off)
+        go State.Normal Delay.Off d o = (refl, refl)
+        go State.Normal (Delay.On ticks) d o = absurd (omega (arith, ltb-true ticks (t .sleep) d))
+        go State.Standby delay d o = absurd (omega arith)
+        go State.Sleep delay d o = absurd (omega arith)
