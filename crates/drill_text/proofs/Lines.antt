@@ -12,7 +12,9 @@ use Rattle.text.proofs.Digits.{decimal-short}
 use Rattle.machine.specs.declared.State.{State}
 use Rattle.master.specs.declared.Master.{Master}
 use Rattle.node.specs.declared.Node.{Node}
-use Rattle.drill_text.specs.Lines.{stateLetter, phaseDigit, clockDigit, statusText, nodeAt, nodesUsed, nodeText, nodesText, moveLine, badLine}
+use Rattle.bus.specs.declared.World.{World}
+use Rattle.bus.specs.World.{nodeAt, nodesUsed}
+use Rattle.drill_text.specs.Lines.{stateLetter, phaseDigit, clockDigit, statusText, nodeText, nodesText, moveLine, badLine}
 
 pub nodes-none : (nodes : List Node) (at : ℕ) (l : List ℕ) → at ≤ largest → Appended at (nodesText nodes 0) l l at
 unfolding nodesText
@@ -41,10 +43,10 @@ nodes-short nodes zero = omega arith
 nodes-short nodes (suc k) =
     omega (arith, length-append (nodesText nodes k) (nodeText (nodeAt nodes k .state) (nodeAt nodes k .error)), nodes-short nodes k, node-short (nodeAt nodes k .state) (nodeAt nodes k .error))
 
-pub move-short : (number : ℕ) (master : Master) (nodes : List Node) (nodecount refusal : ℕ) → length (moveLine number master nodes nodecount refusal) ≤ 80
+pub move-short : (number : ℕ) (world : World) (nodecount refusal : ℕ) → length (moveLine number world nodecount refusal) ≤ 80
 unfolding moveLine
-move-short number master nodes nodecount refusal =
-    simp length-append (omega (arith, decimal-short number, decimal-short refusal, nodes-short nodes (nodesUsed nodecount)))
+move-short number world nodecount refusal =
+    simp length-append (omega (arith, decimal-short number, decimal-short refusal, nodes-short (world .nodes) (nodesUsed nodecount)))
 
 pub bad-short : (number : ℕ) → length (badLine number) ≤ 80
 unfolding badLine

@@ -1,14 +1,14 @@
 -- The lines that the drill prints.
-use Prim.Native.Nat.{ℕ, zero, suc, min}
+use Prim.Native.Nat.{ℕ, zero, suc}
 use mathlib.Core.List.{List, [], _∷_, _++_}
-use mathlib.Core.Bool.{Bool, false}
-use lib.ListN.{getD}
+use mathlib.Core.Bool.{Bool}
 use Rattle.folds.specs.Fold.{pick}
 use Rattle.machine.specs.declared.State.{State}
 use Rattle.master.specs.declared.Master.{Master}
 use Rattle.master.specs.declared.Phase.{Phase}
 use Rattle.node.specs.declared.Node.{Node}
-use Rattle.node.specs.declared.Delay.{Delay}
+use Rattle.bus.specs.declared.World.{World}
+use Rattle.bus.specs.World.{nodeAt, nodesUsed}
 use Rattle.text.specs.Text.{ascii, decimal}
 
 -- "state (N, S, Z)": Normal, Standby and Sleep
@@ -38,24 +38,15 @@ statusText master = 0x20 ∷ stateLetter (master .state) ∷ phaseDigit (master 
 unfoldable pub nodeText : State → Bool → List ℕ
 nodeText state error = pick error (stateLetter state ∷ ascii "!") (stateLetter state ∷ [])
 
-abbrev pub noNode : Node
-noNode = record { state = State.Normal; permission = false; error = false; wake = false; heard = false; caller = false; quiet = 0; delay = Delay.Off; standby = 0; counts = [] }
-
-abbrev pub nodeAt : List Node → ℕ → Node
-nodeAt nodes k = getD nodes k noNode
-
-abbrev pub nodesUsed : ℕ → ℕ
-nodesUsed nodecount = min nodecount 16
-
 -- the first n nodes, one word
 unfoldable pub nodesText : List Node → ℕ → List ℕ
 nodesText nodes zero = []
 nodesText nodes (suc n) = nodesText nodes n ++ nodeText (nodeAt nodes n .state) (nodeAt nodes n .error)
 
 -- "number from 1; master state (N, S, Z) with phase; clock; one letter per node, `!` after it for error; refusal or 0"
-unfoldable pub moveLine : ℕ → Master → List Node → ℕ → ℕ → List ℕ
-moveLine number master nodes nodecount refusal =
-    decimal number ++ statusText master ++ nodesText nodes (nodesUsed nodecount) ++ ascii " " ++ decimal refusal ++ ascii "\n"
+unfoldable pub moveLine : ℕ → World → ℕ → ℕ → List ℕ
+moveLine number world nodecount refusal =
+    decimal number ++ statusText (world .master) ++ nodesText (world .nodes) (nodesUsed nodecount) ++ ascii " " ++ decimal refusal ++ ascii "\n"
 
 -- "its number and `?`"
 unfoldable pub badLine : ℕ → List ℕ

@@ -1,9 +1,10 @@
 // The lines that the drill prints.
 ghost use mathlib.Core.Path.{_≡_};
 ghost use Rattle.text.specs.Text.{Appended};
-ghost use Rattle.drill_text.specs.Lines.{stateLetter, phaseDigit, clockDigit, nodeText, nodesUsed, nodesText, moveLine, badLine};
+ghost use Rattle.bus.specs.World.{nodesUsed};
+ghost use Rattle.drill_text.specs.Lines.{stateLetter, phaseDigit, clockDigit, nodeText, nodesText, moveLine, badLine};
+use bus::World;
 use machine::State;
-use master::Master;
 use master::Phase;
 use node::Node;
 use text::append;
@@ -73,13 +74,14 @@ pub fn append_move(
     buffer: &mut [u8],
     at: usize,
     number: u64,
-    master: Master,
-    nodes: [Node; 16],
+    world: World,
     nodecount: u8,
     refusal: u8,
 ) -> usize
-    ensures { λ r. ⌜ Appended at (moveLine number master nodes nodecount refusal) (now (buffer .entry)) (now (buffer .exit)) r ⌝ }
+    ensures { λ r. ⌜ Appended at (moveLine number world nodecount refusal) (now (buffer .entry)) (now (buffer .exit)) r ⌝ }
 {
+    let nodes = world.nodes;
+    let master = world.master;
     let state = master.state;
     let phase = master.phase;
     let letter = state_letter(state);

@@ -23,19 +23,19 @@ send-requires c κs = search needs
 returns : tie.Need-returns
 returns c =
     rw (
-        c .send .ensures,
-        c .before .fate-word .ensures,
-        c .before .before .number .ensures,
-        c .before .before .before .whom .ensures,
-        ← c .before .before .before .before .before .same .ensures,
-        c .before .before .before .before .if1 .taken,
+      c .send .ensures,
+      c .before .fate-word .ensures,
+      c .before .before .number .ensures,
+      c .before .before .before .whom .ensures,
+      ← c .before .before .before .before .before .same .ensures,
+      c .before .before .before .before .if1 .taken,
     )
 
 returns-2 : tie.Need-returns-2
 returns-2 c =
     rw (
-        ← c .before .same .ensures,
-        c .if1 .left,
+      ← c .before .same .ensures,
+      c .if1 .left,
     )
 
 pub four-words-spec : {M : Type 1} → statement M

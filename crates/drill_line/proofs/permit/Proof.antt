@@ -14,9 +14,9 @@ permit-who-requires c κs = search needs
 returns : tie.Need-returns
 returns c =
     rw (
-        c .permit-who .ensures,
-        ← c .before .before .same .ensures,
-        c .before .if1 .taken,
+      c .permit-who .ensures,
+      ← c .before .before .same .ensures,
+      c .before .if1 .taken,
     )
 
 slice-aggregate-same-2 : tie.Need-slice-aggregate-same-2
@@ -31,20 +31,20 @@ permit-who-requires-2 c κs = search needs
 returns-2 : tie.Need-returns-2
 returns-2 c =
     rw (
-        c .permit-who2 .ensures,
-        ← c .before .before .same2 .ensures,
-        ← c .before .before .before .before .before .same .ensures,
-        c .before .before .before .before .if1 .left,
-        c .before .if2 .taken,
+      c .permit-who2 .ensures,
+      ← c .before .before .same2 .ensures,
+      ← c .before .before .before .before .before .same .ensures,
+      c .before .before .before .before .if1 .left,
+      c .before .if2 .taken,
     )
 
 returns-3 : tie.Need-returns-3
 returns-3 c =
     rw (
-        ← c .before .same2 .ensures,
-        ← c .before .before .before .before .same .ensures,
-        c .before .before .before .if1 .left,
-        c .if2 .left,
+      ← c .before .same2 .ensures,
+      ← c .before .before .before .before .same .ensures,
+      c .before .before .before .if1 .left,
+      c .if2 .left,
     )
 
 pub permit-spec : {M : Type 1} → statement M

@@ -18,16 +18,16 @@ enum-told c = search needs
 returns : tie.Need-returns
 returns c =
     rw (
-        c .before .before .word .given .1,
-        lt-ltb _ _ (c .if1 .taken),
+      c .before .before .word .given .1,
+      lt-ltb _ _ (c .if1 .taken),
     )
 
 returns-2 : tie.Need-returns-2
 returns-2 c =
     rw (
-        c .send-who .ensures,
-        c .before .before .before .word .given .1,
-        le-ltb _ _ (c .before .if1 .left),
+      c .send-who .ensures,
+      c .before .before .before .word .given .1,
+      le-ltb _ _ (c .before .if1 .left),
     )
 
 returns-3 : tie.Need-returns-3

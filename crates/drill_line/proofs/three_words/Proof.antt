@@ -17,10 +17,10 @@ permit-requires c κs = search needs
 returns : tie.Need-returns
 returns c =
     rw (
-        c .permit .ensures,
-        c .before .whom .ensures,
-        ← c .before .before .before .same .ensures,
-        c .before .before .if1 .taken,
+      c .permit .ensures,
+      c .before .whom .ensures,
+      ← c .before .before .before .same .ensures,
+      c .before .before .if1 .taken,
     )
 
 slice-aggregate-same-2 : tie.Need-slice-aggregate-same-2
@@ -41,22 +41,22 @@ request-requires c κs = search needs
 returns-2 : tie.Need-returns-2
 returns-2 c =
     rw (
-        c .request .ensures,
-        c .before .fate-word .ensures,
-        c .before .before .number .ensures,
-        ← c .before .before .before .before .same2 .ensures,
-        ← c .before .before .before .before .before .before .before .same .ensures,
-        c .before .before .before .before .before .before .if1 .left,
-        c .before .before .before .if2 .taken,
+      c .request .ensures,
+      c .before .fate-word .ensures,
+      c .before .before .number .ensures,
+      ← c .before .before .before .before .same2 .ensures,
+      ← c .before .before .before .before .before .before .before .same .ensures,
+      c .before .before .before .before .before .before .if1 .left,
+      c .before .before .before .if2 .taken,
     )
 
 returns-3 : tie.Need-returns-3
 returns-3 c =
     rw (
-        ← c .before .same2 .ensures,
-        ← c .before .before .before .before .same .ensures,
-        c .before .before .before .if1 .left,
-        c .if2 .left,
+      ← c .before .same2 .ensures,
+      ← c .before .before .before .before .same .ensures,
+      c .before .before .before .if1 .left,
+      c .if2 .left,
     )
 
 pub three-words-spec : {M : Type 1} → statement M

@@ -17,10 +17,10 @@ wake-requires c κs = search needs
 returns : tie.Need-returns
 returns c =
     rw (
-        c .wake .ensures,
-        c .before .whom .ensures,
-        ← c .before .before .before .same .ensures,
-        c .before .before .if1 .taken,
+      c .wake .ensures,
+      c .before .whom .ensures,
+      ← c .before .before .before .same .ensures,
+      c .before .before .if1 .taken,
     )
 
 slice-aggregate-same-2 : tie.Need-slice-aggregate-same-2
@@ -35,20 +35,20 @@ sent-requires c κs = search needs
 returns-2 : tie.Need-returns-2
 returns-2 c =
     rw (
-        c .sent .ensures,
-        ← c .before .before .same2 .ensures,
-        ← c .before .before .before .before .before .same .ensures,
-        c .before .before .before .before .if1 .left,
-        c .before .if2 .taken,
+      c .sent .ensures,
+      ← c .before .before .same2 .ensures,
+      ← c .before .before .before .before .before .same .ensures,
+      c .before .before .before .before .if1 .left,
+      c .before .if2 .taken,
     )
 
 returns-3 : tie.Need-returns-3
 returns-3 c =
     rw (
-        ← c .before .same2 .ensures,
-        ← c .before .before .before .before .same .ensures,
-        c .before .before .before .if1 .left,
-        c .if2 .left,
+      ← c .before .same2 .ensures,
+      ← c .before .before .before .before .same .ensures,
+      c .before .before .before .if1 .left,
+      c .if2 .left,
     )
 
 pub two-words-spec : {M : Type 1} → statement M
