@@ -65,66 +65,66 @@ carries-requires-9 c κs = search needs
 returns : tie.Need-returns
 returns c =
     rw (
-        c .carries .ensures,
-        c .before .enum-told .given .1,
+      c .carries .ensures,
+      c .before .enum-told .given .1,
     )
 
 returns-2 : tie.Need-returns-2
 returns-2 c =
     rw (
-        c .carries2 .ensures,
-        c .before .before .told .given .1,
+      c .carries2 .ensures,
+      c .before .before .told .given .1,
     )
 
 returns-3 : tie.Need-returns-3
 returns-3 c =
     rw (
-        c .carries3 .ensures,
-        c .before .enum-told2 .given .1,
+      c .carries3 .ensures,
+      c .before .enum-told2 .given .1,
     )
 
 returns-4 : tie.Need-returns-4
 returns-4 c =
     rw (
-        c .carries4 .ensures,
-        c .before .before .told2 .given .1,
+      c .carries4 .ensures,
+      c .before .before .told2 .given .1,
     )
 
 returns-5 : tie.Need-returns-5
 returns-5 c =
     rw (
-        c .carries5 .ensures,
-        c .before .before .told3 .given .1,
+      c .carries5 .ensures,
+      c .before .before .told3 .given .1,
     )
 
 returns-6 : tie.Need-returns-6
 returns-6 c =
     rw (
-        c .carries6 .ensures,
-        c .before .bus-fate .ensures,
-        c .before .before .before .told4 .given .1,
+      c .carries6 .ensures,
+      c .before .bus-fate .ensures,
+      c .before .before .before .told4 .given .1,
     )
 
 returns-7 : tie.Need-returns-7
 returns-7 c =
     rw (
-        c .carries7 .ensures,
-        c .before .bus-fate2 .ensures,
-        c .before .before .before .told5 .given .1,
+      c .carries7 .ensures,
+      c .before .bus-fate2 .ensures,
+      c .before .before .before .told5 .given .1,
     )
 
 returns-8 : tie.Need-returns-8
 returns-8 c =
     rw (
-        c .carries8 .ensures,
-        c .before .enum-told3 .given .1,
+      c .carries8 .ensures,
+      c .before .enum-told3 .given .1,
     )
 
 returns-9 : tie.Need-returns-9
 returns-9 c =
     rw (
-        c .carries9 .ensures,
-        c .before .before .told6 .given .1,
+      c .carries9 .ensures,
+      c .before .before .told6 .given .1,
     )
 
 pub bus-move-spec : {M : Type 1} → statement M

@@ -62,8 +62,7 @@ loop-again : tie.Need-loop-again Inv-loop μ-loop
 loop-again c =
     let b = c .before .before .before .before .before .before .before .before .before .before .before .loop in
     let a = c .before .before .before .before .before .before .before .before .before .before .before .before .before .before .args in
-    let l = c .before .before .before .before .before .before .before .before .before .line-end .ensures in
-    (
+    let l = c .before .before .before .before .before .before .before .before .before .line-end .ensures in (
       omega (arith, l .within, c .before .before .before .before .before .if1 .left),
       b .inv .1,
       omega (arith, c .before .before .before .end-line .kept .1 .0, b .inv .2),

@@ -11,8 +11,8 @@ empty-requires c κs = search needs
 returns : tie.Need-returns
 returns c =
     rw (
-        c .empty .ensures,
-        c .before .power-on .ensures,
+      c .empty .ensures,
+      c .before .power-on .ensures,
     )
 
 pub start-spec : {M : Type 1} → statement M
