@@ -12,7 +12,8 @@ test:
 	rt fmt --check
 	rt ci
 
-# Makes the test sets, the machines' cases and what must be printed of them anew, from document 01 (needs python3).
+# Makes the test sets, the machines' cases, the drill's scripts and what must be printed of them anew, from document 01 (needs python3).
 cases:
 	python3 tests/sets/make.py
 	python3 tests/machines/make.py
+	python3 tests/drills/make.py

@@ -1,13 +1,13 @@
 -- Safe, and it ends: the turns that are left fall.
 use borrow.Author.Needs.{needs}
-use Rattle.drill.proofs.run.Statement.{statement}
-use Rattle.drill.proofs.run.Tie as tie
+use Rattle.drill_file.proofs.run.Statement.{statement}
+use Rattle.drill_file.proofs.run.Tie as tie
 
 abbrev Inv-loop : tie.InvT-loop
-Inv-loop input₀ out₀ drill₀ turns₀ input out drill turns = Unit {0}
+Inv-loop file input₀ out₀ drill₀ turns₀ input out drill turns = Unit {0}
 
 abbrev μ-loop : tie.MeasureT-loop
-μ-loop input₀ out₀ drill₀ turns₀ input out drill turns = turns
+μ-loop file input₀ out₀ drill₀ turns₀ input out drill turns = turns
 
 input-room-requires : tie.Need-input-room-requires Inv-loop μ-loop
 input-room-requires c κs = search needs
