@@ -506,7 +506,7 @@ tick       | N0 1 S 0
 tick       | N0 1 N 0
 """)
 
-# Sixteen nodes
+# Sixteen nodes; the first answer of the one that called has the wake bit
 all_in = {letter: letter * 16 for letter in "NSZ"}
 script("sixteen", "sixteen", """
 wake 15       | S0 0 {S} 0
@@ -517,6 +517,7 @@ send 14 30 ok | N0 1 {N} 21
 req 127 ok    | N0 1 {N} 0
 send 14 30 ok | N0 1 {N} 0
 send 15 30 ok | N0 1 {N} 12
+send 15 31 ok | N0 1 {N} 0
 permit m 1    | N0 1 {N} 0
 sleep         | N0 1 {N} 20
 """.format(**all_in) + "".join("permit %d 1 | N0 1 %s 0\nreq %d ok | N0 1 %s 0\n" % (i, all_in["N"], 16 + i, all_in["N"]) for i in reversed(range(16))) + """
