@@ -210,30 +210,45 @@ impl Drill {
         }
     }
 
+    // Its parts go by themselves, so that a line copies the world alone.
     fn feed_from(self, input: &[u8], out: &mut [u8]) -> Fed
         ensures { λ r. ⌜ Gives (fed self (now (input .entry))) 0 (said self (now (input .entry))) (now (out .entry)) (now (out .exit)) r ⌝ }
     {
-        let mut drill = self;
+        let plan = self.plan;
+        let mut world = self.world;
+        let mut lines = self.lines;
+        let mut held = self.held;
         let mut start: usize = 0;
         let mut next: usize = 0;
         while start < input.len() {
             let end = line_end(input, start);
-            let kept = drill.held;
-            let held = kept.with(&input[start..end]);
-            drill.held = held;
+            held = held.with(&input[start..end]);
             if input.len() <= end {
                 return Fed {
-                    drill,
+                    drill: Drill {
+                        plan,
+                        world,
+                        lines,
+                        held,
+                    },
                     length: next,
                 };
             }
-            let line = drill.end_line(out, next);
-            drill = line.drill;
-            next = line.length;
+            let line = held.line(plan.nodecount);
+            lines = std::num::wrapping_add_u64(lines, 1);
+            let told = tell(plan, world, lines, line, out, next);
+            world = told.world;
+            next = told.next;
+            held = Held::empty();
             start = end + 1;
         }
         Fed {
-            drill,
+            drill: Drill {
+                plan,
+                world,
+                lines,
+                held,
+            },
             length: next,
         }
     }
