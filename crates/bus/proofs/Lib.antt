@@ -1,2 +1,3 @@
 pub mod EachOne
 pub mod WhoCalls
+pub mod Resting

@@ -1,8 +1,11 @@
 -- A tick: "master, nodes ascending, each seeing the clock as the master left it".
 use Prim.Native.Nat.{ℕ}
-use mathlib.Core.Bool.{Bool, _&&_}
+use mathlib.Core.Bool.{Bool, false, not, _&&_}
 use mathlib.Core.List.{List}
+use lib.Dec.{eqb}
 use Rattle.plan.specs.declared.Times.{Times}
+use Rattle.machine.specs.declared.State.{State}
+use Rattle.node.specs.declared.Delay.{Delay}
 use Rattle.node.specs.declared.Node.{Node}
 use Rattle.node.specs.Ticks as NodeTicks
 use Rattle.master.specs.declared.Reply.{Reply}
@@ -15,6 +18,16 @@ use Rattle.bus.specs.declared.World.{World}
 use Rattle.bus.specs.Each.{eachTo}
 use Rattle.bus.specs.Pulses.{callersTo, anyCalled, spread}
 use Rattle.bus.specs.World.{nodeAt, ticked, Outcome}
+
+-- a tick leaves the node as it is (rests-still in proofs/Resting.antt)
+abbrev pub restsBy : Bool → State → Delay → Node → Bool
+restsBy clock State.Normal Delay.Off n = clock && not (n .error) && eqb (n .quiet) 0
+restsBy clock State.Normal (Delay.On ticks) n = false
+restsBy clock State.Standby delay n = false
+restsBy clock State.Sleep delay n = not clock
+
+abbrev pub rests : Bool → Node → Bool
+rests clock n = restsBy clock (n .state) (n .delay) n
 
 abbrev pub tickedNodes : Times → Bool → ℕ → List Node → List Node
 tickedNodes t clock count nodes = eachTo (λ k n. NodeTicks.tickStep t clock n .node) count nodes
