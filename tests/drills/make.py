@@ -2,7 +2,7 @@
 """Writes the drill's test data: the sets and scripts in crates/drills/data, crates/drills/args and crates/drills/stdout, and those of
 crates/drill.
 
-Run at the repository's root. Beside each move stands what it prints, by hand from document 01; the line's number is put before it.
+Run at the repository's root. Beside each move stands what it prints by document 01; the line's number is put before it.
 Scripts ctc-n.m are the conformance tests of ISO 20794-5 that apply. Nothing here calls the product."""
 import os
 import sys
