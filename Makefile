@@ -12,8 +12,10 @@ test:
 	rt fmt --check
 	rt ci
 
-# Makes the test sets, the machines' cases, the lists of moves and what must be printed of them anew, from document 01 (needs python3).
+# Makes the test sets, the machines' cases, the lists of moves, the drill's scripts and what must be printed of them anew, from document 01
+# (needs python3).
 cases:
 	python3 tests/sets/make.py
 	python3 tests/machines/make.py
 	python3 tests/runs/make.py
+	python3 tests/drills/make.py

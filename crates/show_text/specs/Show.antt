@@ -1,10 +1,7 @@
 -- The words for a set.
-use Prim.Native.Nat.{ℕ, zero, suc, min}
-use mathlib.Core.Path.{_≡_}
+use Prim.Native.Nat.{ℕ, zero, suc}
 use mathlib.Core.List.{List, [], _++_}
 use lib.Dec.{eqb}
-use lib.ListN.{length}
-use lib.Seq.{sets}
 use Rattle.folds.specs.Fold.{pick}
 use Rattle.plan.specs.declared.NodeEntry.{NodeEntry}
 use Rattle.plan.specs.declared.Row.{Row}
@@ -74,8 +71,3 @@ refusalText number = ascii "set " ++ decimal number ++ ascii "\n" ++ ruleText nu
 
 unfoldable pub answerText : ReadAnswer → List ℕ
 answerText answer = pick (eqb (answer .refusal) 0) (planText (answer .plan)) (refusalText (answer .refusal))
-
--- the text stands at the front of the buffer l, which is then l′, as far as there is room; r bytes of it do
-pub record Shown (text l l′ : List ℕ) (r : ℕ) : Type 0 where
-  pub count : r ≡ min (length text) (length l)
-  pub bytes : l′ ≡ sets l 0 text

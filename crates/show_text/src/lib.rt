@@ -1,8 +1,8 @@
 // A release set in words.
 ghost use Prim.Native.Nat.{_≤_};
-ghost use Rattle.text.specs.Text.{Appended, Counts};
+ghost use Rattle.text.specs.Text.{Appended, Shown, Counts};
 ghost use Rattle.reader.specs.Read.{readSet};
-ghost use Rattle.show_text.specs.Show.{timeLine, timesText, methodText, nodeLine, nodesText, publisherText, countText, rowLine, rowsText, planText, ruleText, refusalText, answerText, Shown};
+ghost use Rattle.show_text.specs.Show.{timeLine, timesText, methodText, nodeLine, nodesText, publisherText, countText, rowLine, rowsText, planText, ruleText, refusalText, answerText};
 use plan::NodeEntry;
 use plan::Plan;
 use plan::Row;

@@ -7,7 +7,7 @@ use lib.Seq.{sets, length-sets}
 use native.Mathlib.Omega.{arith}
 use native.Mathlib.Decide.{decLt}
 use Rattle.folds.proofs.Stores.{sets-append, sets-out}
-use Rattle.text.specs.Text.{Appended, largest}
+use Rattle.text.specs.Text.{Appended, Shown, largest}
 
 pub appended-none : (at : ℕ) (l : List ℕ) → at ≤ largest → Appended at [] l l at
 appended-none at l p = record { next = omega arith; bytes = refl }
@@ -30,3 +30,7 @@ appended-then {at} {a} {b} {l} {m} {o} {r} {q} fits v w =
 -- the same text under another name
 pub appended-as : {at : ℕ} {a b l m : List ℕ} {r : ℕ} → a ≡ b → Appended at a l m r → Appended at b l m r
 appended-as {at} {a} {b} {l} {m} {r} e w = record { next = w .next ∙ ap (λ x. min (at + length x) largest) e; bytes = w .bytes ∙ ap (sets l at) e }
+
+-- what was appended at the front, of which r bytes lie in the buffer
+pub shown : {text l l′ : List ℕ} {end r : ℕ} → length l ≤ largest → Appended 0 text l l′ end → r ≡ min end (length l′) → Shown text l l′ r
+shown {text} {l} fits w e = record { count = omega (arith, w .next, e, ap length (w .bytes) ∙ length-sets l 0 text); bytes = w .bytes }

@@ -2,11 +2,13 @@
 use Prim.Native.Nat.{ℕ, zero, suc, _+_, _*_, _-_, _/_, _%_, _^_, _≤_, _<_}
 use mathlib.Core.Path.{_≡_, refl, _∙_}
 use mathlib.Core.List.{List, [], _∷_, _++_}
-use lib.ListN.{length}
+use lib.Dec.{ltb}
+use lib.ListN.{length, length-append}
 use native.Mathlib.Omega.{arith}
 use native.Mathlib.Decide.{decLt}
 use native.Mathlib.Nat.{pow-suc}
 use borrow.Author.Tests.{lt-ltb, le-ltb}
+use Rattle.folds.proofs.Choices.{by-test}
 use Rattle.text.specs.Text.{digitsIn, mostDigits, decimal, largest, Appended}
 use Rattle.text.proofs.Appends.{appended-none, appended-then, appended-as}
 
@@ -29,6 +31,17 @@ digits-more at (suc k) n r q l m o fits e p v w =
     let z : suc k - 1 ≡ k = omega arith in
     let f : digitsIn (suc k - 1) (n / 10) ++ ((48 + n % 10) ∷ []) ≡ digitsIn (suc k) n = rw (z, le-ltb n 10 p) in
     appended-as f (appended-then fits v w)
+
+digits-short : (places n : ℕ) → length (digitsIn places n) ≤ places
+unfolding digitsIn
+digits-short zero n = omega arith
+digits-short (suc k) n =
+    by-test (λ digits. length digits ≤ suc k) (ltb n 10) {x = (48 + n) ∷ []} {y = digitsIn k (n / 10) ++ ((48 + n % 10) ∷ [])} (λ l. omega arith)
+    (λ l. omega (arith, digits-short k (n / 10), length-append (digitsIn k (n / 10)) ((48 + n % 10) ∷ [])))
+
+pub decimal-short : (n : ℕ) → length (decimal n) ≤ mostDigits
+unfolding decimal
+decimal-short n = digits-short mostDigits n
 
 -- the number that digits stand for, behind a front worth a
 unfoldable pub value : ℕ → List ℕ → ℕ

@@ -44,6 +44,11 @@ pub record Appended (at : ℕ) (text l l′ : List ℕ) (r : ℕ) : Type 0 where
   pub next : r ≡ min (at + length text) largest
   pub bytes : l′ ≡ sets l at text
 
+-- the text stands at the front of the buffer l, which is then l′, as far as there is room; r bytes of it do
+pub record Shown (text l l′ : List ℕ) (r : ℕ) : Type 0 where
+  pub count : r ≡ min (length text) (length l)
+  pub bytes : l′ ≡ sets l 0 text
+
 -- n counts bytes at the front of a buffer: both facts that lending `&buffer[..n]` asks
 abbrev pub Counts : ℕ → List ℕ → Type 0
 Counts n buffer = (n ≤ length buffer) × (n ≡ length (take n buffer))

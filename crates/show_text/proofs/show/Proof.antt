@@ -1,6 +1,9 @@
 -- What was appended, as far as there is room. Assumes nothing.
+use mathlib.Core.Path.{ap}
 use native.Mathlib.Omega.{arith}
-use Rattle.show_text.proofs.Answers.{counts-few, shown}
+use Rattle.text.proofs.Appends.{appended-as, shown}
+use Rattle.show_text.specs.Show.{answerText}
+use Rattle.show_text.proofs.Answers.{counts-few}
 use borrow.Author.Needs.{needs}
 use Rattle.show_text.proofs.show.Statement.{statement}
 use Rattle.show_text.proofs.show.Tie as tie
@@ -19,7 +22,7 @@ same-length c = search needs
 
 returns : tie.Need-returns
 returns c =
-    (shown _ _ _ _ _ _ (c .before .before .before .before .before .before .read .ensures) (omega (arith, c .before .before .before .before .before .before .before .before .before .good .1 .0 .0)) (c .before .before .before .before .append-answer .ensures) (c .below .ensures .0), c .below .ensures .1)
+    (shown (omega (arith, c .before .before .before .before .before .before .before .before .before .good .1 .0 .0)) (appended-as (ap answerText (c .before .before .before .before .before .before .read .ensures)) (c .before .before .before .before .append-answer .ensures)) (c .below .ensures .0), c .below .ensures .1)
 
 pub show-spec : {M : Type 1} → statement M
 show-spec =

@@ -1,0 +1,111 @@
+-- What the drill prints is what its lines print, of whatever length they are and in whatever pieces they come.
+use Prim.Native.Nat.{ℕ, _≤_}
+use mathlib.Core.Path.{_≡_, refl, ap, ap₂, sym, _∙_}
+use mathlib.Core.List.{List, [], _∷_, _++_, append-assoc, append-nil}
+use mathlib.Core.Bool.{Bool, true, false}
+use lib.Dec.{eqb}
+use lib.ListN.{length}
+use native.Mathlib.Omega.{arith}
+use Rattle.folds.specs.Fold.{pick}
+use Rattle.plan.specs.declared.Plan.{Plan}
+use Rattle.bus.specs.declared.World.{World}
+use Rattle.bus.specs.World.{powerOn}
+use Rattle.drill_line.specs.Words.{noNumber, longer, cut}
+use Rattle.drill_line.specs.Parse.{parseLine}
+use Rattle.drill_line.proofs.Long.{enough}
+use Rattle.drill_feed.specs.declared.Drill.{Drill}
+use Rattle.drill_feed.specs.Feed.{room, next, worldAfter, lineText, linesText, drillText, emptyHeld, holdByte, holdAll, started, heldLine, ended, lineSaid, keeps, fed, said, lastSaid, allSaid}
+use Rattle.drill_feed.proofs.Holding.{held-line, hold-one, held-none}
+use Rattle.drill_feed.proofs.Feeding.{fed-append, said-append}
+
+-- there is always a last piece
+data Some : List (List ℕ) → Type 0 where
+  some : (l : List ℕ) (more : List (List ℕ)) → Some (l ∷ more)
+
+longer-some : (c : ℕ) (pieces : List (List ℕ)) → Some (longer c pieces)
+longer-some c [] = some (c ∷ []) []
+longer-some c (l ∷ more) = some (c ∷ l) more
+
+cut-some : (mark : ℕ) (text : List ℕ) → Some (cut mark text)
+unfolding cut
+cut-some mark [] = some [] []
+cut-some mark (c ∷ text) = go (eqb c mark)
+  where
+    go : (t : Bool) → Some (pick t ([] ∷ cut mark text) (longer c (cut mark text)))
+    go true = some [] (cut mark text)
+    go false = longer-some c (cut mark text)
+
+-- pieces with a text before the first
+abbrev behind : List ℕ → List (List ℕ) → List (List ℕ)
+behind p [] = p ∷ []
+behind p (l ∷ more) = (p ++ l) ∷ more
+
+behind-longer : (p : List ℕ) (c : ℕ) (pieces : List (List ℕ)) → behind (p ++ (c ∷ [])) pieces ≡ behind p (longer c pieces)
+behind-longer p c [] = refl
+behind-longer p c (l ∷ more) = ap (λ x. x ∷ more) (append-assoc p (c ∷ []) l)
+
+behind-none : {pieces : List (List ℕ)} → Some pieces → behind [] pieces ≡ pieces
+behind-none (some l more) = refl
+
+module _ (plan : Plan) (few : plan .nodecount ≤ noNumber) where
+  abbrev judged : List ℕ → Rattle.drill_line.specs.declared.Line.Line
+  judged l = parseLine l (plan .nodecount)
+
+  -- the drill after so many lines, amid another
+  abbrev amid : World → ℕ → List ℕ → Drill
+  amid w lines l = record { plan = plan; world = w; lines = lines; held = holdAll emptyHeld l }
+
+  amid-judged : (w : World) (lines : ℕ) (l : List ℕ) → heldLine (amid w lines l) ≡ judged l
+  amid-judged w lines l = ap judged (held-line l) ∙ enough room l (plan .nodecount) (omega arith) few
+
+  amid-text : (w : World) (lines : ℕ) (l : List ℕ) → lineSaid (amid w lines l) ≡ lineText plan w (next lines) (judged l)
+  unfolding lineSaid
+  amid-text w lines l = ap (lineText plan w (next lines)) (amid-judged w lines l)
+
+  amid-ended : (w : World) (lines : ℕ) (l : List ℕ) → ended (amid w lines l) ≡ amid (worldAfter plan w (judged l)) (next lines) []
+  unfolding ended holdAll
+  amid-ended w lines l = ap (λ m. record { plan = plan; world = worldAfter plan w m; lines = next lines; held = emptyHeld }) (amid-judged w lines l)
+
+  one-more : (w : World) (lines : ℕ) (l : List ℕ) {pieces : List (List ℕ)} → Some pieces
+      → linesText plan w lines (l ∷ pieces) ≡ lineText plan w (next lines) (judged l) ++ linesText plan (worldAfter plan w (judged l)) (next lines) pieces
+  unfolding linesText
+  one-more w lines l (some m more) = refl
+
+  abbrev Right : List ℕ → Type 0
+  Right input = (w : World) (lines : ℕ) (l : List ℕ) → allSaid (amid w lines l) input ≡ linesText plan w lines (behind l (cut 10 input))
+
+  last : Right []
+  unfolding allSaid said fed lastSaid cut linesText
+  last w lines l =
+      ap₂ (λ b x. pick b [] x) (held-none l) (amid-text w lines l)
+      ∙ ap (λ x. pick (eqb (length x) 0) [] (lineText plan w (next lines) (judged x))) (sym (append-nil l))
+
+  step : (c : ℕ) (input : List ℕ) → Right input → (t : Bool) → eqb c 10 ≡ t → Right (c ∷ input)
+  unfolding allSaid said fed cut
+  step c input h true e w lines l =
+      let d = amid w lines l in
+      let w′ = worldAfter plan w (judged l) in
+      rw e
+      (append-assoc (lineSaid d) (said (ended d) input) (lastSaid (fed (ended d) input))
+      ∙ ap₂ (λ x y. x ++ allSaid y input) (amid-text w lines l) (amid-ended w lines l)
+      ∙ ap (λ x. lineText plan w (next lines) (judged l) ++ x) (h w′ (next lines) [] ∙ ap (linesText plan w′ (next lines)) (behind-none (cut-some 10 input)))
+      ∙ sym (one-more w lines l (cut-some 10 input))
+      ∙ ap (λ x. linesText plan w lines (x ∷ cut 10 input)) (sym (append-nil l)))
+  step c input h false e w lines l =
+      let f : _≡_ {A = Drill} (keeps (amid w lines l) (holdByte (holdAll emptyHeld l) c)) (amid w lines (l ++ (c ∷ []))) =
+      ap (λ x. record { plan = plan; world = w; lines = lines; held = x }) (sym (hold-one l c)) in
+      rw e (ap (λ d. allSaid d input) f ∙ h w lines (l ++ (c ∷ [])) ∙ ap (linesText plan w lines) (behind-longer l c (cut 10 input)))
+
+  right : (input : List ℕ) → Right input
+  right [] w lines l = last w lines l
+  right (c ∷ input) w lines l = step c input (right input) (eqb c 10) refl w lines l
+
+  -- the whole input, from power-on
+  pub by-lines : (input : List ℕ) → allSaid (started plan) input ≡ drillText plan input
+  unfolding holdAll
+  by-lines input = right input powerOn 0 [] ∙ ap (linesText plan powerOn 0) (behind-none (cut-some 10 input))
+
+-- in two pieces as in one
+pub in-pieces : (d : Drill) (a b : List ℕ) → allSaid d (a ++ b) ≡ said d a ++ allSaid (fed d a) b
+unfolding allSaid
+in-pieces d a b = ap₂ (λ x y. x ++ lastSaid y) (said-append d a b) (fed-append d a b) ∙ append-assoc (said d a) (said (fed d a) b) (lastSaid (fed (fed d a) b))

@@ -1,0 +1,25 @@
+use mathlib.Core.Path.{refl}
+use native.Mathlib.Omega.{arith}
+use Rattle.text.proofs.Appends.{shown}
+use Rattle.drill_feed.proofs.Feeding.{last-none, last-one}
+use borrow.Author.Needs.{needs}
+use Rattle.drill_feed.proofs.Drill.finish.Statement.{statement}
+use Rattle.drill_feed.proofs.Drill.finish.Tie as tie
+
+returns : tie.Need-returns
+returns c = (last-none (c .before .before .before .before .args .self) _ (c .if1 .taken), (omega arith, refl))
+
+end-line-requires : tie.Need-end-line-requires
+end-line-requires c κs = search needs
+
+below-requires : tie.Need-below-requires
+below-requires c κs = search needs
+
+same-length : tie.Need-same-length
+same-length c = search needs
+
+returns-2 : tie.Need-returns-2
+returns-2 c = (last-one (c .before .before .before .before .before .before .before .before .before .before .args .self) (c .before .before .before .before .before .before .if1 .left) (shown (omega arith) (c .before .before .before .before .end-line .ensures .appended) (c .below .ensures .0)), c .below .ensures .1)
+
+pub finish-spec : {M : Type 1} → statement M
+finish-spec = tie.close (tie.spec returns end-line-requires below-requires same-length returns-2)

@@ -1,0 +1,172 @@
+-- Laws of a line's end, and of bytes that come in pieces.
+use Prim.Native.Nat.{ℕ, suc, _+_, _*_, _-_, _≤_, _<_}
+use mathlib.Core.Path.{_≡_, refl, ap, ap₂, sym, _∙_}
+use mathlib.Core.List.{List, [], _∷_, _++_, append-assoc, append-nil}
+use lib.Dec.{eqb}
+use lib.ListN.{length, getD, take, drop, length-append, length-take}
+use lib.Seq.{take-all, take-suc, take-add, getD-take, getD-drop}
+use native.Mathlib.Omega.{arith}
+use native.Mathlib.Numerals.{add-one}
+use borrow.Author.Tests.{eq-eqb, ne-eqb}
+use Rattle.folds.proofs.Choices.{by-test}
+use Rattle.plan.specs.declared.Plan.{Plan}
+use Rattle.bus.specs.declared.Move.{Move}
+use Rattle.bus.specs.declared.Moved.{Moved}
+use Rattle.bus.specs.declared.World.{World}
+use Rattle.bus.specs.World.{moved}
+use Rattle.bus.specs.Moves.{worldAct}
+use Rattle.text.specs.Text.{Appended, Shown, largest}
+use Rattle.text.proofs.Appends.{appended-none, appended-then, appended-as}
+use Rattle.drill_line.specs.declared.DrillMove.{DrillMove}
+use Rattle.drill_line.specs.declared.Line.{Line}
+use Rattle.drill_text.specs.Lines.{moveLine, badLine}
+use Rattle.drill_text.proofs.Lines.{move-short, bad-short}
+use Rattle.drill_feed.specs.declared.Drill.{Drill}
+use Rattle.drill_feed.specs.declared.Held.{Held}
+use Rattle.drill_feed.specs.declared.Told.{Told}
+use Rattle.drill_feed.specs.Moves.{moveOf}
+use Rattle.drill_feed.specs.Feed.{next, lineMoved, worldAfter, lineText, emptyHeld, holdByte, holdAll, heldLine, ended, lineSaid, keeps, byteFed, byteSaid, fed, said, lastSaid, LineEnd, Tells, Gives}
+
+-- a line told
+
+pub tells-bad : {plan : Plan} {w : World} {number at r : ℕ} {line : Line} {l l′ : List ℕ} → line ≡ Line.Bad → Appended at (badLine number) l l′ r
+    → Tells plan w number line at l l′ (record { world = w; next = r })
+tells-bad e a = record { after = rw e; text = rw e a }
+
+pub tells-move : {plan : Plan} {w : World} {number at r : ℕ} {line : Line} {told : DrillMove} {m : Move} {o : Moved} {l l′ : List ℕ} → line ≡ Line.Move told
+    → m ≡ moveOf told → o ≡ moved (worldAct plan w m) → Appended at (moveLine number (o .world) (plan .nodecount) (o .refusal)) l l′ r
+    → Tells plan w number line at l l′ (record { world = o .world; next = r })
+unfolding lineMoved
+tells-move {plan} {w} {number} {told = told} {o = o} e f g a =
+    let h : o ≡ lineMoved plan w told = g ∙ ap (λ x. moved (worldAct plan w x)) f in
+    record { after = rw e (ap (λ (x : Moved). x .world) h); text = rw e (appended-as (ap (λ (x : Moved). moveLine number (x .world) (plan .nodecount) (x .refusal)) h) a) }
+
+-- the held line ends
+pub ends : (d : Drill) {line : Line} {number at : ℕ} {held : Held} {l l′ : List ℕ} {told : Told} → line ≡ heldLine d → number ≡ next (d .lines) → held ≡ emptyHeld
+    → Tells (d .plan) (d .world) number line at l l′ told
+    → Gives (ended d) at (lineSaid d) l l′ (record { drill = record { plan = d .plan; world = told .world; lines = number; held = held }; length = told .next })
+unfolding ended lineSaid
+ends d {told = told} e f g t =
+    record {
+      state = rw (f, g) (ap (λ w. record { plan = d .plan; world = w; lines = next (d .lines); held = emptyHeld }) (t .after ∙ ap (worldAfter (d .plan) (d .world)) e));
+      appended = appended-as (ap₂ (lineText (d .plan) (d .world)) f e) (t .text);
+    }
+
+line-short : (plan : Plan) (w : World) (number : ℕ) (line : Line) → length (lineText plan w number line) ≤ 80
+line-short plan w number (Line.Move told) = move-short number (lineMoved plan w told .world) (plan .nodecount) (lineMoved plan w told .refusal)
+line-short plan w number Line.Bad = bad-short number
+
+-- 80 bytes of text for each byte of input are room enough, and 80 at its end
+pub last-room : (d : Drill) → length (lineSaid d) ≤ 80
+unfolding lineSaid
+last-room d = line-short (d .plan) (d .world) (next (d .lines)) (heldLine d)
+
+pub room-enough : (d : Drill) (input : List ℕ) → length (said d input) ≤ 80 * length input
+unfolding said
+room-enough d [] = omega arith
+room-enough d (b ∷ input) =
+    let one : length (byteSaid d b) ≤ 80 = by-test (λ text. length text ≤ 80) (eqb b 10) {x = lineSaid d} {y = []} (λ e. last-room d) (λ e. omega arith) in
+    omega (arith, length-append (byteSaid d b) (said (byteFed d b) input), one, room-enough (byteFed d b) input)
+
+-- bytes in pieces
+
+pub fed-append : (d : Drill) (a b : List ℕ) → fed d (a ++ b) ≡ fed (fed d a) b
+unfolding fed
+fed-append d [] b = refl
+fed-append d (x ∷ a) b = fed-append (byteFed d x) a b
+
+pub said-append : (d : Drill) (a b : List ℕ) → said d (a ++ b) ≡ said d a ++ said (fed d a) b
+unfolding fed said
+said-append d [] b = refl
+said-append d (x ∷ a) b =
+    ap (λ l. byteSaid d x ++ l) (said-append (byteFed d x) a b) ∙ sym (append-assoc (byteSaid d x) (said (byteFed d x) a) (said (fed (byteFed d x) a) b))
+
+-- bytes with no LF
+
+abbrev NoEnd : List ℕ → Type 0
+NoEnd l = (k : ℕ) → k < length l → getD l k 0 ≡ 10 → ⊥
+
+fed-kept : (d : Drill) (l : List ℕ) → NoEnd l → fed d l ≡ keeps d (holdAll (d .held) l)
+unfolding fed holdAll
+fed-kept d [] h = refl
+fed-kept d (x ∷ l) h = rw (ne-eqb x 10 (h 0 (omega arith))) (fed-kept (keeps d (holdByte (d .held) x)) l (λ k j. h (suc k) (omega arith)))
+
+said-none : (d : Drill) (l : List ℕ) → NoEnd l → said d l ≡ []
+unfolding said
+said-none d [] h = refl
+said-none d (x ∷ l) h = rw (ne-eqb x 10 (h 0 (omega arith))) (said-none (keeps d (holdByte (d .held) x)) l (λ k j. h (suc k) (omega arith)))
+
+-- the loop over lines
+
+abbrev part : List ℕ → ℕ → ℕ → List ℕ
+part input start end = take (end - start) (drop start input)
+
+module _ (input : List ℕ) (start end : ℕ) (v : LineEnd input start end) where
+  part-free : NoEnd (part input start end)
+  part-free k p q =
+      let b : length (part input start end) ≤ end - start = omega (arith, length-take (end - start) (drop start input)) in
+      v .inside (start + k) (omega (arith, v .from)) (omega arith) (sym (getD-take (end - start) (drop start input) k 0 (omega arith) ∙ getD-drop start input k 0) ∙ q)
+
+  take-part : take end input ≡ take start input ++ part input start end
+  take-part =
+      let e : start + (end - start) ≡ end = omega (arith, v .from) in
+      ap (λ k. take k input) (sym e) ∙ take-add start (end - start) input
+
+  take-line : end < length input → take (end + 1) input ≡ (take start input ++ part input start end) ++ (10 ∷ [])
+  take-line p = rw add-one (take-suc input end 0 p ∙ ap₂ (λ x y. x ++ (y ∷ [])) take-part (v .found p))
+
+  module _ (d₀ d : Drill) (held : Held) (a : d ≡ fed d₀ (take start input)) (b : held ≡ holdAll (d .held) (part input start end)) where
+    held-part : keeps d held ≡ fed d₀ (take start input ++ part input start end)
+    held-part =
+        ap (keeps d) b ∙ sym (fed-kept d (part input start end) part-free) ∙ ap (λ x. fed x (part input start end)) a
+        ∙ sym (fed-append d₀ (take start input) (part input start end))
+
+    said-part : said d₀ (take start input ++ part input start end) ≡ said d₀ (take start input)
+    said-part =
+        said-append d₀ (take start input) (part input start end)
+        ∙ ap (λ x. said d₀ (take start input) ++ x) (said-none (fed d₀ (take start input)) (part input start end) part-free) ∙ append-nil (said d₀ (take start input))
+
+    -- the line ends
+    pub turn-state : end < length input → {d′ : Drill} → d′ ≡ ended (keeps d held) → d′ ≡ fed d₀ (take (end + 1) input)
+    unfolding fed
+    turn-state p q =
+        q ∙ ap ended held-part ∙ sym (fed-append d₀ (take start input ++ part input start end) (10 ∷ [])) ∙ ap (fed d₀) (sym (take-line p))
+
+    pub turn-text : end < length input → {l m n : List ℕ} {r q : ℕ} → length l ≤ largest → Appended 0 (said d₀ (take start input)) l m r
+        → Appended r (lineSaid (keeps d held)) m n q → Appended 0 (said d₀ (take (end + 1) input)) l n q
+    unfolding said
+    turn-text p fits w z =
+        appended-as
+        (ap₂ (λ x y. x ++ lineSaid y) (sym said-part) held-part
+        ∙ ap (λ x. said d₀ (take start input ++ part input start end) ++ x) (sym (append-nil (lineSaid (fed d₀ (take start input ++ part input start end)))))
+        ∙ sym (said-append d₀ (take start input ++ part input start end) (10 ∷ []))
+        ∙ ap (said d₀) (sym (take-line p)))
+        (appended-then fits w z)
+
+    -- the bytes end
+    whole : length input ≤ end → take start input ++ part input start end ≡ input
+    whole p = sym take-part ∙ take-all end input p
+
+    pub stop-state : length input ≤ end → keeps d held ≡ fed d₀ input
+    stop-state p = held-part ∙ ap (fed d₀) (whole p)
+
+    pub stop-text : length input ≤ end → {l m : List ℕ} {r : ℕ} → Appended 0 (said d₀ (take start input)) l m r → Appended 0 (said d₀ input) l m r
+    stop-text p w = appended-as (sym said-part ∙ ap (said d₀) (whole p)) w
+
+-- no bytes yet
+pub fed-nothing : (d : Drill) → d ≡ fed d []
+unfolding fed
+fed-nothing d = refl
+
+pub said-nothing : (d : Drill) (l : List ℕ) → Appended 0 (said d []) l l 0
+unfolding said
+said-nothing d l = appended-none 0 l (omega arith)
+
+-- the end of the input: nothing is held, or a line that lacks its LF
+pub last-none : (d : Drill) (l : List ℕ) → d .held .count ≡ 0 → Shown (lastSaid d) l l 0
+unfolding lastSaid
+last-none d l e = rw (eq-eqb (d .held .count) 0 e) (record { count = omega arith; bytes = refl })
+
+pub last-one : (d : Drill) {l l′ : List ℕ} {r : ℕ} → (d .held .count ≡ 0 → ⊥) → Shown (lineSaid d) l l′ r → Shown (lastSaid d) l l′ r
+unfolding lastSaid
+last-one d n s = rw (ne-eqb (d .held .count) 0 n) s

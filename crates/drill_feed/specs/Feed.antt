@@ -1,0 +1,133 @@
+-- The drill: what its input does and prints, byte by byte and line by line.
+use Prim.Native.Nat.{ℕ, _+_, _%_, _^_, _≤_, _<_}
+use mathlib.Core.Path.{_≡_}
+use mathlib.Core.List.{List, [], _∷_, _++_}
+use lib.Dec.{eqb, ltb}
+use lib.ListN.{length, getD, set, take, replicate}
+use Rattle.folds.specs.Fold.{pick}
+use Rattle.plan.specs.declared.Plan.{Plan}
+use Rattle.bus.specs.declared.World.{World}
+use Rattle.bus.specs.declared.Moved.{Moved}
+use Rattle.bus.specs.World.{powerOn, moved}
+use Rattle.bus.specs.Moves.{worldAct}
+use Rattle.text.specs.Text.{Appended, Shown}
+use Rattle.drill_line.specs.declared.DrillMove.{DrillMove}
+use Rattle.drill_line.specs.declared.Line.{Line}
+use Rattle.drill_line.specs.Words.{cut}
+use Rattle.drill_line.specs.Parse.{parseLine}
+use Rattle.drill_text.specs.Lines.{moveLine, badLine}
+use Rattle.drill_feed.specs.declared.Held.{Held}
+use Rattle.drill_feed.specs.declared.Drill.{Drill}
+use Rattle.drill_feed.specs.declared.Fed.{Fed}
+use Rattle.drill_feed.specs.declared.Told.{Told}
+use Rattle.drill_feed.specs.Moves.{moveOf}
+
+-- what a move of the drill gives
+unfoldable pub lineMoved : Plan → World → DrillMove → Moved
+lineMoved plan world told = moved (worldAct plan world (moveOf told))
+
+-- the world after a line: "Any other line .. counts", and moves nothing
+abbrev pub worldAfter : Plan → World → Line → World
+worldAfter plan world (Line.Move told) = lineMoved plan world told .world
+worldAfter plan world Line.Bad = world
+
+-- what a line prints
+abbrev pub lineText : Plan → World → ℕ → Line → List ℕ
+lineText plan world number (Line.Move told) =
+    moveLine number (lineMoved plan world told .world) (plan .nodecount) (lineMoved plan world told .refusal)
+lineText plan world number Line.Bad = badLine number
+
+-- the line after so many, of 64 bits
+abbrev pub next : ℕ → ℕ
+next lines = (lines + 1) % 2 ^ 64
+
+-- what so many lines and more print, the input cut at each LF: "Lines end in LF, which the last may lack"
+unfoldable pub linesText : Plan → World → ℕ → List (List ℕ) → List ℕ
+linesText plan world lines [] = []
+linesText plan world lines (l ∷ []) = pick (eqb (length l) 0) [] (lineText plan world (next lines) (parseLine l (plan .nodecount)))
+linesText plan world lines (l ∷ m ∷ more) =
+    lineText plan world (next lines) (parseLine l (plan .nodecount))
+    ++ linesText plan (worldAfter plan world (parseLine l (plan .nodecount))) (next lines) (m ∷ more)
+
+-- what the drill prints for an input, from power-on
+abbrev pub drillText : Plan → List ℕ → List ℕ
+drillText plan input = linesText plan powerOn 0 (cut 10 input)
+
+-- the same byte by byte, as the input comes
+
+-- of a line that has not ended so many bytes are held, the others dropped
+abbrev pub room : ℕ
+room = 32
+
+abbrev pub emptyHeld : Held
+emptyHeld = record { bytes = replicate 32 0; count = 0 }
+
+abbrev pub holdByte : Held → ℕ → Held
+holdByte held b = pick (ltb (held .count) room) (record { bytes = set (held .bytes) (held .count) b; count = held .count + 1 }) held
+
+unfoldable pub holdAll : Held → List ℕ → Held
+holdAll held [] = held
+holdAll held (b ∷ bytes) = holdAll (holdByte held b) bytes
+
+abbrev pub heldText : Held → List ℕ
+heldText held = take (held .count) (held .bytes)
+
+abbrev pub started : Plan → Drill
+started plan = record { plan = plan; world = powerOn; lines = 0; held = emptyHeld }
+
+abbrev pub heldLine : Drill → Line
+heldLine d = parseLine (heldText (d .held)) (d .plan .nodecount)
+
+-- the held line ends
+unfoldable pub ended : Drill → Drill
+ended d = record { plan = d .plan; world = worldAfter (d .plan) (d .world) (heldLine d); lines = next (d .lines); held = emptyHeld }
+
+unfoldable pub lineSaid : Drill → List ℕ
+lineSaid d = lineText (d .plan) (d .world) (next (d .lines)) (heldLine d)
+
+abbrev pub keeps : Drill → Held → Drill
+keeps d held = record { plan = d .plan; world = d .world; lines = d .lines; held = held }
+
+-- a byte, and bytes: the drill after them, and what they print
+abbrev pub byteFed : Drill → ℕ → Drill
+byteFed d b = pick (eqb b 10) (ended d) (keeps d (holdByte (d .held) b))
+
+abbrev pub byteSaid : Drill → ℕ → List ℕ
+byteSaid d b = pick (eqb b 10) (lineSaid d) []
+
+unfoldable pub fed : Drill → List ℕ → Drill
+fed d [] = d
+fed d (b ∷ bytes) = fed (byteFed d b) bytes
+
+unfoldable pub said : Drill → List ℕ → List ℕ
+said d [] = []
+said d (b ∷ bytes) = byteSaid d b ++ said (byteFed d b) bytes
+
+-- the end of the input
+unfoldable pub lastSaid : Drill → List ℕ
+lastSaid d = pick (eqb (d .held .count) 0) [] (lineSaid d)
+
+-- the whole of it
+unfoldable pub allSaid : Drill → List ℕ → List ℕ
+allSaid d input = said d input ++ lastSaid (fed d input)
+
+-- the end of the line that starts at an index: its LF, or the end of the bytes
+pub record LineEnd (bytes : List ℕ) (start end : ℕ) : Type 0 where
+  pub from : start ≤ end
+  pub within : end ≤ length bytes
+  pub inside : (k : ℕ) → k < end → start ≤ k → getD bytes k 0 ≡ 10 → ⊥
+  pub found : end < length bytes → getD bytes end 0 ≡ 10
+
+-- a line told: the answer r, and the buffer l′ that was l
+pub record Tells (plan : Plan) (w : World) (number : ℕ) (line : Line) (at : ℕ) (l l′ : List ℕ) (r : Told) : Type 0 where
+  pub after : r .world ≡ worldAfter plan w line
+  pub text : Appended at (lineText plan w number line) l l′ (r .next)
+
+-- a drill and a text: the answer r, and the buffer l′ that was l; the text stands in it from an index on, or at its front
+pub record Gives (d : Drill) (at : ℕ) (text l l′ : List ℕ) (r : Fed) : Type 0 where
+  pub state : r .drill ≡ d
+  pub appended : Appended at text l l′ (r .length)
+
+pub record GivesFirst (d : Drill) (text l l′ : List ℕ) (r : Fed) : Type 0 where
+  pub state : r .drill ≡ d
+  pub shown : Shown text l l′ (r .length)

@@ -1,0 +1,281 @@
+// The drill: input in pieces of any length to the text that it prints.
+ghost use mathlib.Core.Path.{_≡_};
+ghost use Prim.Native.Nat.{_≤_};
+ghost use lib.ListN.{length};
+ghost use Rattle.text.specs.Text.{Shown, Counts};
+ghost use Rattle.drill_line.specs.Parse.{parseLine};
+ghost use Rattle.drill_feed.specs.Moves.{busFate, carries, moveOf};
+ghost use Rattle.drill_feed.specs.Feed.{emptyHeld, holdAll, heldText, started, ended, lineSaid, fed, said, lastSaid, LineEnd, Tells, Gives, GivesFirst};
+use bus::Act;
+use bus::Bus;
+use bus::Damage;
+use bus::Fate;
+use bus::Move;
+use bus::Moved;
+use bus::World;
+use drill_line::DrillMove;
+use drill_line::Line;
+use drill_text::append_bad;
+use drill_text::append_move;
+use plan::Plan;
+use text::below;
+
+// The first bytes of a line that has not ended. Longer lines are no moves, so the others are not missed.
+pub struct Held {
+    pub bytes: [u8; 32],
+    pub count: usize,
+}
+
+pub struct Drill {
+    pub plan: Plan,
+    pub world: World,
+    // lines so far
+    pub lines: u64,
+    pub held: Held,
+}
+
+// A drill after a piece of input, and how many bytes of text the piece gave.
+pub struct Fed {
+    pub drill: Drill,
+    pub length: usize,
+}
+
+// A world after a line, and the index past the line's text.
+pub struct Told {
+    pub world: World,
+    pub next: usize,
+}
+
+fn bus_fate(fate: drill_line::Fate) -> Fate
+    ensures { λ r. ⌜ r ≡ busFate fate ⌝ }
+{
+    match fate {
+        drill_line::Fate::Whole => Fate::Whole,
+        drill_line::Fate::Damaged => Fate::Damaged(Damage {
+            result: 1,
+            length: 0,
+            count: 0,
+            permission: false,
+            wake: false,
+        }),
+        drill_line::Fate::Lost => Fate::Lost,
+    }
+}
+
+fn carries(act: Act, reached: bool, fate: Fate) -> Move
+    ensures { λ r. ⌜ r ≡ carries act reached fate ⌝ }
+{
+    Move {
+        act,
+        bus: Bus {
+            reached: [reached; 16],
+            hearing: [true; 16],
+            master: true,
+            fate,
+        },
+    }
+}
+
+fn bus_move(told: DrillMove) -> Move
+    ensures { λ r. ⌜ r ≡ moveOf told ⌝ }
+{
+    match told {
+        DrillMove::Tick => carries(Act::Tick, true, Fate::Whole),
+        DrillMove::WakeNode(node) => carries(Act::NodeWakeAsk(node), true, Fate::Whole),
+        DrillMove::WakeMaster => carries(Act::MasterWakeAsk, true, Fate::Whole),
+        DrillMove::PermitNode(node, permitted) => {
+            carries(Act::NodePermission { node, permitted }, true, Fate::Whole)
+        }
+        DrillMove::PermitMaster(permitted) => carries(
+            Act::MasterPermission(permitted),
+            true,
+            Fate::Whole,
+        ),
+        DrillMove::Request(reqid, fate) => carries(Act::Request(reqid), true, bus_fate(fate)),
+        DrillMove::Send(node, reqid, fate) => carries(
+            Act::SendAsk { node, reqid },
+            true,
+            bus_fate(fate),
+        ),
+        DrillMove::Sleep => carries(Act::SleepAsk, true, Fate::Whole),
+        DrillMove::Sent(sent) => carries(Act::SendResult(sent), sent, Fate::Whole),
+    }
+}
+
+impl Held {
+    fn empty() -> Held
+        ensures { λ r. ⌜ r ≡ emptyHeld ⌝ }
+    {
+        Held {
+            bytes: [0; 32],
+            count: 0,
+        }
+    }
+
+    // With more bytes of the line, as far as there is room.
+    fn with(self, part: &[u8]) -> Held
+        ensures { λ r. ⌜ r ≡ holdAll self (now (part .entry)) ⌝ }
+    {
+        let mut bytes = self.bytes;
+        let mut count = self.count;
+        let mut i: usize = 0;
+        while i < part.len() {
+            if 32 <= count {
+                return Held { bytes, count };
+            }
+            bytes[count] = part[i];
+            count += 1;
+            i += 1;
+        }
+        Held { bytes, count }
+    }
+
+    fn line(self, nodecount: u8) -> Line
+        ensures { λ r. ⌜ r ≡ parseLine (heldText self) nodecount ⌝ }
+    {
+        let bytes = self.bytes;
+        let count = self.count;
+        if 32 < count {
+            return drill_line::parse(&bytes, nodecount);
+        }
+        drill_line::parse(&bytes[..count], nodecount)
+    }
+}
+
+// The LF that ends the line which starts at an index, or the end of the bytes.
+fn line_end(bytes: &[u8], start: usize) -> usize
+    requires { ⌜ start ≤ length (now bytes) ⌝ }
+    ensures { λ r. ⌜ LineEnd (now (bytes .entry)) start r ⌝ }
+{
+    let mut end = start;
+    while end < bytes.len() {
+        if bytes[end] == 10 {
+            return end;
+        }
+        end += 1;
+    }
+    end
+}
+
+// What a line does, and its text from an index on.
+fn tell(plan: Plan, world: World, number: u64, line: Line, out: &mut [u8], at: usize) -> Told
+    ensures { λ r. ⌜ Tells plan world number line at (now (out .entry)) (now (out .exit)) r ⌝ }
+{
+    match line {
+        Line::Bad => {
+            let next = append_bad(out, at, number);
+            Told { world, next }
+        }
+        Line::Move(told) => {
+            let moved = world.act(plan, bus_move(told));
+            let after = moved.world;
+            let next = append_move(out, at, number, after, plan.nodecount, moved.refusal);
+            Told { world: after, next }
+        }
+    }
+}
+
+impl Drill {
+    // From power-on.
+    pub fn start(plan: Plan) -> Drill
+        ensures { λ r. ⌜ r ≡ started plan ⌝ }
+    {
+        Drill {
+            plan,
+            world: World::power_on(),
+            lines: 0,
+            held: Held::empty(),
+        }
+    }
+
+    // The held line ends: its text goes into a buffer from an index on.
+    fn end_line(self, out: &mut [u8], at: usize) -> Fed
+        ensures { λ r. ⌜ Gives (ended self) at (lineSaid self) (now (out .entry)) (now (out .exit)) r ⌝ }
+    {
+        let plan = self.plan;
+        let world = self.world;
+        let held = self.held;
+        let line = held.line(plan.nodecount);
+        let number = std::num::wrapping_add_u64(self.lines, 1);
+        let told = tell(plan, world, number, line, out, at);
+        let after = told.world;
+        Fed {
+            drill: Drill {
+                plan,
+                world: after,
+                lines: number,
+                held: Held::empty(),
+            },
+            length: told.next,
+        }
+    }
+
+    // Its parts go by themselves, so that a line copies the world alone.
+    fn feed_from(self, input: &[u8], out: &mut [u8]) -> Fed
+        ensures { λ r. ⌜ Gives (fed self (now (input .entry))) 0 (said self (now (input .entry))) (now (out .entry)) (now (out .exit)) r ⌝ }
+    {
+        let plan = self.plan;
+        let mut world = self.world;
+        let mut lines = self.lines;
+        let mut held = self.held;
+        let mut start: usize = 0;
+        let mut next: usize = 0;
+        while start < input.len() {
+            let end = line_end(input, start);
+            held = held.with(&input[start..end]);
+            if input.len() <= end {
+                return Fed {
+                    drill: Drill {
+                        plan,
+                        world,
+                        lines,
+                        held,
+                    },
+                    length: next,
+                };
+            }
+            let line = held.line(plan.nodecount);
+            lines = std::num::wrapping_add_u64(lines, 1);
+            let told = tell(plan, world, lines, line, out, next);
+            world = told.world;
+            next = told.next;
+            held = Held::empty();
+            start = end + 1;
+        }
+        Fed {
+            drill: Drill {
+                plan,
+                world,
+                lines,
+                held,
+            },
+            length: next,
+        }
+    }
+
+    // A piece more of the input. Its text stands at the front of the buffer, as far as there is room: 80 places for each byte are enough.
+    pub fn feed(self, input: &[u8], out: &mut [u8]) -> Fed
+        ensures { λ r. ⌜ GivesFirst (fed self (now (input .entry))) (said self (now (input .entry))) (now (out .entry)) (now (out .exit)) r ⌝ }
+        ensures { λ r. ⌜ Counts (r .length) (now (out .exit)) ⌝ }
+    {
+        let last = self.feed_from(input, out);
+        let drill = last.drill;
+        Fed {
+            drill,
+            length: below(&out[..], last.length),
+        }
+    }
+
+    // The end of the input: a last line that lacks its LF.
+    pub fn finish(self, out: &mut [u8]) -> usize
+        ensures { λ r. ⌜ Shown (lastSaid self) (now (out .entry)) (now (out .exit)) r ⌝ }
+        ensures { λ r. ⌜ Counts r (now (out .exit)) ⌝ }
+    {
+        let held = self.held;
+        if held.count == 0 {
+            return 0;
+        }
+        let line = self.end_line(out, 0);
+        below(&out[..], line.length)
+    }
+}

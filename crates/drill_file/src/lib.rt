@@ -1,0 +1,74 @@
+// The drill on files: it reads moves and writes their lines. What a file holds is outside any promise; what is printed for it is
+// drill_feed's.
+ghost use mathlib.Core.Path.{_≡_};
+ghost use lib.ListN.{length};
+ghost use Rattle.reader.specs.Read.{readSet};
+use drill_feed::Drill;
+use libc::STDOUT_FILENO;
+
+struct Turn {
+    drill: Drill,
+    more: bool,
+}
+
+// Room for one read. Each of its bytes gives at most 80 of text, and io's large buffer has 65,536 places.
+fn input_room() -> [u8; 800]
+    ensures { λ r. ⌜ 800 ≡ length r ⌝ }
+{
+    [0; 800]
+}
+
+// Reads once, and prints what the bytes give.
+fn read_on(file: i32, drill: Drill, input: &mut [u8], out: &mut [u8]) -> Turn {
+    let got = libc::read(file, input);
+    if got <= 0 {
+        return Turn { drill, more: false };
+    }
+    let count = io::count(got, input);
+    let fed = drill.feed(&input[..count], out);
+    let length = fed.length;
+    let next = fed.drill;
+    let more = io::write_all(STDOUT_FILENO, &out[..length]);
+    Turn { drill: next, more }
+}
+
+fn end(drill: Drill, out: &mut [u8]) {
+    let length = drill.finish(out);
+    io::write_all(STDOUT_FILENO, &out[..length]);
+}
+
+// A proved loop has to end, and nothing says that the input does: so the turns are counted down, from a number that no run uses up.
+fn run(file: i32, start: Drill) {
+    let mut space = input_room();
+    let input: &mut [u8] = &mut space;
+    let mut room = io::large_buffer();
+    let out: &mut [u8] = &mut room;
+    let mut drill = start;
+    let mut turns = u64::MAX;
+    while 0 < turns {
+        let turn = read_on(file, drill, input, out);
+        drill = turn.drill;
+        if !turn.more {
+            end(drill, out);
+            return;
+        }
+        turns -= 1;
+    }
+}
+
+// Runs the moves in a file under a set; a refused set is named instead. Answers the refusal.
+pub fn drill(set: &[u8], file: i32) -> u8
+    ensures { λ r. ⌜ r ≡ readSet (now (set .entry)) .refusal ⌝ }
+{
+    let answer = reader::read(set);
+    let plan = answer.plan;
+    let refusal = answer.refusal;
+    if refusal == 0 {
+        run(file, Drill::start(plan));
+    } else {
+        io::write_all(STDOUT_FILENO, b"set ");
+        io::print_decimal(STDOUT_FILENO, refusal as u64);
+        io::write_all(STDOUT_FILENO, b"\n");
+    }
+    refusal
+}

@@ -1,0 +1,85 @@
+-- The move that a line names.
+use Prim.Native.Nat.{ℕ}
+use mathlib.Core.List.{List, [], _∷_}
+use mathlib.Core.Bool.{Bool, true, false}
+use lib.Dec.{ltb}
+use Rattle.folds.specs.Fold.{pick}
+use Rattle.text.specs.Text.{ascii}
+use Rattle.drill_line.specs.Words.{same, words, numberOf}
+use Rattle.drill_line.specs.declared.Line.{Line}
+use Rattle.drill_line.specs.declared.DrillMove.{DrillMove}
+use Rattle.drill_line.specs.declared.Fate.{Fate}
+use Rattle.drill_line.specs.declared.FateWord.{FateWord}
+use Rattle.drill_line.specs.declared.Who.{Who}
+
+-- "X a node number below N or m"
+abbrev pub whoOf : List ℕ → ℕ → Who
+whoOf w nodecount = pick (same w (ascii "m")) Who.Master (pick (ltb (numberOf w) nodecount) (Who.Node (numberOf w)) Who.Nobody)
+
+-- "H being ok, bad or lost for the answer"
+abbrev pub fateOf : List ℕ → FateWord
+fateOf w =
+    pick (same w (ascii "ok")) (FateWord.Is Fate.Whole)
+    (pick (same w (ascii "bad")) (FateWord.Is Fate.Damaged)
+    (pick (same w (ascii "lost")) (FateWord.Is Fate.Lost)
+    FateWord.Unknown))
+
+-- `tick`; `sleep`
+abbrev pub oneWord : List ℕ → Line
+oneWord w = pick (same w (ascii "tick")) (Line.Move DrillMove.Tick) (pick (same w (ascii "sleep")) (Line.Move DrillMove.Sleep) Line.Bad)
+
+abbrev pub wakeOf : Who → Line
+wakeOf (Who.Node node) = Line.Move (DrillMove.WakeNode node)
+wakeOf Who.Master = Line.Move DrillMove.WakeMaster
+wakeOf Who.Nobody = Line.Bad
+
+abbrev pub sentOf : List ℕ → Line
+sentOf result = pick (same result (ascii "ok")) (Line.Move (DrillMove.Sent true)) (pick (same result (ascii "fail")) (Line.Move (DrillMove.Sent false)) Line.Bad)
+
+-- `wake X`; `sent ok` or `sent fail`
+abbrev pub twoWords : List ℕ → List ℕ → ℕ → Line
+twoWords w x nodecount = pick (same w (ascii "wake")) (wakeOf (whoOf x nodecount)) (pick (same w (ascii "sent")) (sentOf x) Line.Bad)
+
+abbrev pub permitWho : Who → Bool → Line
+permitWho (Who.Node node) permitted = Line.Move (DrillMove.PermitNode node permitted)
+permitWho Who.Master permitted = Line.Move (DrillMove.PermitMaster permitted)
+permitWho Who.Nobody permitted = Line.Bad
+
+abbrev pub permitOf : Who → List ℕ → Line
+permitOf who permission = pick (same permission (ascii "0")) (permitWho who false) (pick (same permission (ascii "1")) (permitWho who true) Line.Bad)
+
+-- "R 0 to 127"
+abbrev pub requestOf : ℕ → FateWord → Line
+requestOf reqid (FateWord.Is fate) = pick (ltb 127 reqid) Line.Bad (Line.Move (DrillMove.Request reqid fate))
+requestOf reqid FateWord.Unknown = Line.Bad
+
+-- `permit X 0` or `1`; `req R H`
+abbrev pub threeWords : List ℕ → List ℕ → List ℕ → ℕ → Line
+threeWords w x y nodecount =
+    pick (same w (ascii "permit")) (permitOf (whoOf x nodecount) y) (pick (same w (ascii "req")) (requestOf (numberOf x) (fateOf y)) Line.Bad)
+
+-- "(not m)"
+abbrev pub sendWho : Who → ℕ → Fate → Line
+sendWho (Who.Node node) reqid fate = Line.Move (DrillMove.Send node reqid fate)
+sendWho Who.Master reqid fate = Line.Bad
+sendWho Who.Nobody reqid fate = Line.Bad
+
+abbrev pub sendOf : Who → ℕ → FateWord → Line
+sendOf who reqid (FateWord.Is fate) = pick (ltb 127 reqid) Line.Bad (sendWho who reqid fate)
+sendOf who reqid FateWord.Unknown = Line.Bad
+
+-- `send X R H`
+abbrev pub fourWords : List ℕ → List ℕ → List ℕ → List ℕ → ℕ → Line
+fourWords w x y z nodecount = pick (same w (ascii "send")) (sendOf (whoOf x nodecount) (numberOf y) (fateOf z)) Line.Bad
+
+abbrev pub lineOf : List (List ℕ) → ℕ → Line
+lineOf [] nodecount = Line.Bad
+lineOf (w ∷ []) nodecount = oneWord w
+lineOf (w ∷ x ∷ []) nodecount = twoWords w x nodecount
+lineOf (w ∷ x ∷ y ∷ []) nodecount = threeWords w x y nodecount
+lineOf (w ∷ x ∷ y ∷ z ∷ []) nodecount = fourWords w x y z nodecount
+lineOf (w ∷ x ∷ y ∷ z ∷ v ∷ more) nodecount = Line.Bad
+
+-- the move that a line names in a plan of so many nodes
+unfoldable pub parseLine : List ℕ → ℕ → Line
+parseLine text nodecount = lineOf (words text) nodecount

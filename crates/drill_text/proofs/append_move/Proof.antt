@@ -1,0 +1,77 @@
+-- One text after the other.
+use Prim.Native.Nat.{_≤_}
+use lib.ListN.{length}
+use native.Mathlib.Omega.{arith}
+use Rattle.text.specs.Text.{largest}
+use Rattle.text.proofs.Appends.{appended-as, appended-then}
+use Rattle.drill_text.specs.Lines.{moveLine}
+use Rattle.drill_text.proofs.Lines.{status-as}
+use borrow.Author.Needs.{needs}
+use Rattle.drill_text.proofs.append_move.Statement.{statement}
+use Rattle.drill_text.proofs.append_move.Tie as tie
+
+state-letter-requires : tie.Need-state-letter-requires
+state-letter-requires c κs = search needs
+
+phase-digit-requires : tie.Need-phase-digit-requires
+phase-digit-requires c κs = search needs
+
+clock-digit-requires : tie.Need-clock-digit-requires
+clock-digit-requires c κs = search needs
+
+append-decimal-requires : tie.Need-append-decimal-requires
+append-decimal-requires c κs = search needs
+
+slice-aggregate-append : tie.Need-slice-aggregate-append
+slice-aggregate-append c = search needs
+
+append-requires : tie.Need-append-requires
+append-requires c κs = search needs
+
+append-nodes-requires : tie.Need-append-nodes-requires
+append-nodes-requires c κs = search needs
+
+slice-aggregate-append-2 : tie.Need-slice-aggregate-append-2
+slice-aggregate-append-2 c = search needs
+
+append-requires-2 : tie.Need-append-requires-2
+append-requires-2 c κs = search needs
+
+append-decimal-requires-2 : tie.Need-append-decimal-requires-2
+append-decimal-requires-2 c κs = search needs
+
+slice-aggregate-append-3 : tie.Need-slice-aggregate-append-3
+slice-aggregate-append-3 c = search needs
+
+append-requires-3 : tie.Need-append-requires-3
+append-requires-3 c κs = search needs
+
+same-length : tie.Need-same-length
+same-length c = omega (arith, c .before .before .before .before .before .before .before .before .before .before .before .before .before .before .before .before .before .before .before .before .before .before .before .before .before .append-decimal .kept .0, c .before .before .before .before .before .before .before .before .before .before .before .before .before .before .before .before .before .before .before .before .append .kept .0, c .before .before .before .before .before .before .before .before .before .before .before .before .before .before .before .before .append-nodes .kept .0, c .before .before .before .before .before .before .before .before .before .before .before .append2 .kept .0, c .before .before .before .before .before .before .before .append-decimal2 .kept .0, c .before .before .append3 .kept .0)
+
+returns : tie.Need-returns
+unfolding moveLine
+returns c =
+    let a = c .before .before .before .before .before .before .before .before .before .before .before .before .before .before .before .before .before .before .before .before .before .before .before .before .before .before .before .before .before .before .before .before .before .args in
+    let f : length (a .buffer .now) ≤ largest = omega (arith, c .before .before .before .before .before .before .before .before .before .before .before .before .before .before .before .before .before .before .before .before .before .before .before .before .before .before .before .before .before .before .before .before .before .good .0 .0) in
+    let state = appended-as (status-as (a .world .master) (c .before .before .before .before .before .before .before .before .before .before .before .before .before .before .before .before .before .before .before .before .before .before .before .before .before .before .before .before .before .state-letter .ensures) (c .before .before .before .before .before .before .before .before .before .before .before .before .before .before .before .before .before .before .before .before .before .before .before .before .before .before .before .before .phase-digit .ensures) (c .before .before .before .before .before .before .before .before .before .before .before .before .before .before .before .before .before .before .before .before .before .before .before .before .before .before .before .clock-digit .ensures)) (c .before .before .before .before .before .before .before .before .before .before .before .before .before .before .before .before .before .before .before .before .append .ensures) in
+    appended-then f (appended-then f (appended-then f (appended-then f (appended-then f (c .before .before .before .before .before .before .before .before .before .before .before .before .before .before .before .before .before .before .before .before .before .before .before .before .before .append-decimal .ensures) state) (c .before .before .before .before .before .before .before .before .before .before .before .before .before .before .before .before .append-nodes .ensures)) (c .before .before .before .before .before .before .before .before .before .before .before .append2 .ensures)) (c .before .before .before .before .before .before .before .append-decimal2 .ensures)) (c .before .before .append3 .ensures)
+
+pub append-move-spec : {M : Type 1} → statement M
+append-move-spec =
+    tie.close
+    (tie.spec
+    state-letter-requires
+    phase-digit-requires
+    clock-digit-requires
+    append-decimal-requires
+    slice-aggregate-append
+    append-requires
+    append-nodes-requires
+    slice-aggregate-append-2
+    append-requires-2
+    append-decimal-requires-2
+    slice-aggregate-append-3
+    append-requires-3
+    same-length
+    returns)
