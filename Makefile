@@ -1,16 +1,28 @@
 # rt proves and builds what has changed; rt ci starts from nothing and gives the verdict.
-.PHONY: run test cases
+.PHONY: run show test bench cases
+
+# Document 01's drill: its twelve moves on set T.
+run:
+	@mkdir -p target
+	@rt check drill > target/run.log 2>&1 || { cat target/run.log; exit 1; }
+	@cd examples/set-t && ../../target/bin/drill < moves
 
 # The example set T of document 01, in words.
-run:
+show:
 	@mkdir -p target
 	@rt check show > target/run.log 2>&1 || { cat target/run.log; exit 1; }
 	@cd examples/set-t && ../../target/bin/show
 
-# Layout, proofs, must-fail edits, programs: the last line is the verdict.
+# Layout, the C tests and the comparison with the independent implementation, then proofs, must-fail edits and programs: the last line is
+# the verdict.
 test:
 	rt fmt --check
+	sh tests/c/run.sh
 	rt ci
+
+# The calls and the drill against straightforward C on the same inputs.
+bench:
+	sh tests/c/bench.sh
 
 # Makes the test sets, the machines' cases, the lists of moves, the drill's scripts and what must be printed of them anew, from document 01
 # (needs python3).

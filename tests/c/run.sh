@@ -10,7 +10,7 @@ reference="$independent/reference_packed.c $independent/reference.c"
 flags="-std=c11 -Wall -Wextra -Werror -pedantic"
 checked="-O1 -g -fsanitize=address,undefined -fno-sanitize-recover=all"
 
-rt staticlib cxpi > /dev/null
+rt staticlib cxpi > /dev/null 2>&1 || rt staticlib cxpi
 mkdir -p $out
 sh tests/c/symbols.sh $archive include/cxpi.h
 
@@ -29,3 +29,19 @@ g++ -std=c++17 -Wall -Wextra -Werror -pedantic -Iinclude -c tests/c/header.cpp -
 
 gcc $flags -O2 -Iinclude -I$independent tests/c/compare.c $reference $archive -o $out/compare
 $out/compare
+
+# The independent drill, by document 01's moves.
+sh $independent/check_drill.sh
+
+# The drill against it: long lists, plain and with odd lines.
+rt check drill > /dev/null 2>&1 || rt check drill
+gcc $flags -O2 $independent/make_set.c $independent/big_plan.c $independent/reference.c -o $out/make_set
+gcc $flags -O2 $independent/drill.c $independent/reference.c -o $out/reference_drill
+$out/make_set > $out/plan.set
+for seed in 1 2 3; do
+    for kind in "" odd; do
+        python3 $independent/make_drill.py $out/plan.set 100000 $seed $kind > $out/moves
+        (cd $out && ./reference_drill < moves > wanted && ../bin/drill < moves | cmp - wanted)
+    done
+done
+echo "drill: 600000 lines as the independent drill prints them"
