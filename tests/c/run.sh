@@ -10,7 +10,8 @@ reference="$independent/reference_packed.c $independent/reference.c"
 flags="-std=c11 -Wall -Wextra -Werror -pedantic"
 checked="-O1 -g -fsanitize=address,undefined -fno-sanitize-recover=all"
 
-rt staticlib cxpi > /dev/null 2>&1 || rt staticlib cxpi
+rt check cxpi drill > /dev/null 2>&1 || rt check cxpi drill
+rt staticlib cxpi > /dev/null 2>&1
 mkdir -p $out
 sh tests/c/symbols.sh $archive include/cxpi.h
 
@@ -34,7 +35,6 @@ $out/compare
 sh $independent/check_drill.sh
 
 # The drill against it: long lists, plain and with odd lines.
-rt check drill > /dev/null 2>&1 || rt check drill
 gcc $flags -O2 $independent/make_set.c $independent/big_plan.c $independent/reference.c -o $out/make_set
 gcc $flags -O2 $independent/drill.c $independent/reference.c -o $out/reference_drill
 $out/make_set > $out/plan.set

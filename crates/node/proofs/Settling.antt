@@ -35,10 +35,7 @@ module _ (t : Times) where
   run-power-on = record { permission = refl; fits = asleep-fits t false; shows = λ e. no-way e; lit = on-none t powerOn; dark = off-none t powerOn }
 
   module _ (permitted : Bool) (on off : ℕ) (n : Node) (s : InRun t permitted on off n) where
-    -- 0 ticks say nothing: a sleep message that is refused, and another's ask to wake
-    pub run-on-ends : InRun t permitted 0 off n
-    run-on-ends = record { permission = s .permission; fits = s .fits; shows = s .shows; lit = on-none t n; dark = s .dark }
-
+    -- 0 ticks say nothing: another's ask to wake
     pub run-off-ends : InRun t permitted on 0 n
     run-off-ends = record { permission = s .permission; fits = s .fits; shows = s .shows; lit = s .lit; dark = off-none t n }
 

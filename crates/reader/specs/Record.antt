@@ -29,9 +29,6 @@ recordOf s =
     zeroPlan
 
 -- 1 for another length, then the plan's rules, 4 to 8
-abbrev pub recordRefusal : List ℕ → ℕ
-recordRefusal s = pick (eqb (length s) 591) (planRefusal (recordOf s)) 1
-
 abbrev pub readRecord : List ℕ → ReadAnswer
 readRecord s =
     pick (eqb (length s) 591)
