@@ -1,5 +1,5 @@
 -- By the reply. Assumes nothing.
-use mathlib.Core.Path.{_≡_, sym, _∙_}
+use mathlib.Core.Path.{sym, _∙_}
 use borrow.Author.Tests.{not-true, not-false}
 use Rattle.cxpi.proofs.Calls.{master-refused, master-changed, master-done, not-done}
 use borrow.Author.Needs.{needs}

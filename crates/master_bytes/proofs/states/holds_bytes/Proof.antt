@@ -1,11 +1,10 @@
 -- Three bytes a turn. Assumes nothing.
 use Rattle.master_bytes.proofs.Permissions.{three-more}
-use Prim.Native.Nat.{ℕ, _<_, _≤_, _-_, _*_, _+_}
+use Prim.Native.Nat.{ℕ, _<_, _≤_, _-_, _*_}
 use mathlib.Core.Path.{_≡_, refl}
 use lib.ListN.{length, getD, length-set}
 use native.Mathlib.Omega.{arith}
-use Rattle.folds.proofs.Tables.{filled-more, tab-of}
-use Rattle.master.specs.Changes.{noHold}
+use Rattle.folds.proofs.Tables.{tab-of}
 use Rattle.master_bytes.specs.States.{holdByteAt, holdsBytes}
 use borrow.Author.Needs.{needs}
 use Rattle.master_bytes.proofs.states.holds_bytes.Statement.{statement}

@@ -1,6 +1,4 @@
 -- Run by run. Assumes nothing.
-use mathlib.Core.Path.{_≡_, refl, sym, _∙_}
-use native.Mathlib.Omega.{arith}
 use borrow.Author.Tests.{lt-ltb, le-ltb}
 use Rattle.writer.proofs.RecordRuns.{record-put}
 use borrow.Author.Needs.{needs}
