@@ -4,5 +4,6 @@ pub mod Moves
 pub mod Owners
 pub mod Pulses
 pub mod Range
+pub mod Resting
 pub mod Ticks
 pub mod World

@@ -1,13 +1,16 @@
 // Who sends a wake-up pulse in a move, and messages that reach a set of nodes.
 ghost use mathlib.Core.Path.{_≡_};
 ghost use Prim.Native.Nat.{_≤_};
-ghost use Rattle.bus.specs.Pulses.{withCaller, anyCalled, otherCalled, receive, receiveIf, reachAll, spread};
+ghost use Rattle.bus.specs.Pulses.{withCaller, anyCalled, otherCalled, receive, reachAll, spread};
+ghost use Rattle.bus.specs.Resting.{ignoresRow, ignores, untouched};
 use crate::Bus;
 use crate::Callers;
 use crate::Message;
 use crate::World;
+use crate::ticks::is_normal;
 use node::Command;
 use node::Node;
+use plan::Lookup;
 
 pub(crate) fn with_caller(callers: Callers, node: u8, command: Command) -> Callers
     ensures { λ r. ⌜ r ≡ withCaller callers node command ⌝ }
@@ -70,17 +73,37 @@ fn receive(node: Node, me: u8, message: Message) -> Node
     }
 }
 
-fn receive_if(reached: bool, node: Node, me: u8, message: Message) -> Node
-    ensures { λ r. ⌜ r ≡ receiveIf reached message me node ⌝ }
+// Whether a request leaves node `me` in Normal as it is: of no row, or of another's after one was heard.
+fn ignores_row(node: Node, me: u8, row: Lookup) -> bool
+    ensures { λ r. ⌜ r ≡ ignoresRow row me node ⌝ }
 {
-    if reached {
-        receive(node, me, message)
-    } else {
-        node
+    match row {
+        Lookup::Missing => true,
+        Lookup::Found(found) => node.heard & !(found.publisher == me),
     }
 }
 
-// A message reaches those of the first `count` nodes that are in a set.
+// Whether a message that reaches node `me` leaves it as it is.
+fn ignores(node: Node, me: u8, message: Message) -> bool
+    ensures { λ r. ⌜ r ≡ ignores message me node ⌝ }
+{
+    let state = node.state;
+    let normal = is_normal(state);
+    match message {
+        Message::Pulse(_) => normal,
+        Message::Request(row) => !normal | ignores_row(node, me, row),
+        Message::SleepMessage => !normal,
+    }
+}
+
+// Whether a message leaves node `me` as it is, reached or not.
+fn untouched(reached: bool, node: Node, me: u8, message: Message) -> bool
+    ensures { λ r. ⌜ r ≡ untouched reached message me node ⌝ }
+{
+    !reached | ignores(node, me, message)
+}
+
+// A message reaches those of the first `count` nodes that are in a set; nodes that it leaves as they are, are not copied.
 pub(crate) fn reach_all(
     mut nodes: [Node; 16],
     count: u8,
@@ -93,7 +116,11 @@ pub(crate) fn reach_all(
     let mut i: u8 = 0;
     while i < count {
         let node = nodes[i as usize];
-        nodes[i as usize] = receive_if(reached[i as usize], node, i, message);
+        if untouched(reached[i as usize], node, i, message) {
+            i += 1;
+            continue;
+        }
+        nodes[i as usize] = receive(node, i, message);
         i += 1;
     }
     nodes

@@ -3,6 +3,7 @@ ghost use mathlib.Core.Path.{_≡_};
 ghost use Prim.Native.Nat.{_≤_};
 ghost use Rattle.machine.specs.State.{isNormal};
 ghost use Rattle.bus.specs.World.{moved};
+ghost use Rattle.bus.specs.Resting.{rests};
 ghost use Rattle.bus.specs.Ticks.{tickNodes, tickMove};
 use crate::Bus;
 use crate::Callers;
@@ -11,6 +12,7 @@ use crate::Ticked;
 use crate::World;
 use crate::pulses::with_caller;
 use machine::State;
+use node::Delay;
 use node::Node;
 use plan::Times;
 
@@ -24,6 +26,23 @@ pub(crate) fn is_normal(state: State) -> bool
     }
 }
 
+// Whether a tick leaves a node as it is: in Normal with clock and nothing to clear or to count, or asleep without clock.
+fn rests(node: Node, clock: bool) -> bool
+    ensures { λ r. ⌜ r ≡ rests clock node ⌝ }
+{
+    let state = node.state;
+    let delay = node.delay;
+    match state {
+        State::Normal => match delay {
+            Delay::Off => clock & !node.error & (node.quiet == 0),
+            Delay::On(_) => false,
+        },
+        State::Standby => false,
+        State::Sleep => !clock,
+    }
+}
+
+// Nodes that rest, most of them in most ticks, are not copied.
 fn tick_nodes(mut nodes: [Node; 16], count: u8, times: Times, clock: bool) -> Ticked
     requires { ⌜ count ≤ 16 ⌝ }
     ensures { λ r. ⌜ r ≡ tickNodes times clock count nodes ⌝ }
@@ -32,6 +51,10 @@ fn tick_nodes(mut nodes: [Node; 16], count: u8, times: Times, clock: bool) -> Ti
     let mut i: u8 = 0;
     while i < count {
         let node = nodes[i as usize];
+        if rests(node, clock) {
+            i += 1;
+            continue;
+        }
         let reply = node.tick(times, clock);
         let command = reply.command;
         callers = with_caller(callers, i, command);

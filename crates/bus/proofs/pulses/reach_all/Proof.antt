@@ -1,10 +1,14 @@
 -- The nodes passed have received the message where it reached them. Assumes nothing.
 use Prim.Native.Nat.{ℕ, _-_, _≤_}
-use mathlib.Core.Path.{_≡_, refl, ap, _∙_}
+use mathlib.Core.Path.{_≡_, refl, ap, sym, _∙_}
+use mathlib.Core.Bool.{false}
 use native.Mathlib.Omega.{arith}
-use lib.ListN.{length}
+use lib.ListN.{length, getD}
+use lib.Seq.{set-getD}
 use Rattle.bus.specs.Pulses.{reachAll}
+use Rattle.bus.specs.World.{noNode}
 use Rattle.bus.proofs.EachOne.{each-more}
+use Rattle.bus.proofs.Resting.{untouched-still, touched-receives}
 use borrow.Author.Needs.{needs}
 use Rattle.bus.proofs.pulses.reach_all.Statement.{statement}
 use Rattle.bus.proofs.pulses.reach_all.Tie as tie
@@ -27,14 +31,31 @@ mul-node c = search needs
 array-copy-out-node : tie.Need-array-copy-out-node Inv-loop μ-loop
 array-copy-out-node c = search needs
 
-cast-receive-if : tie.Need-cast-receive-if Inv-loop μ-loop
-cast-receive-if c = search needs
+cast-untouched : tie.Need-cast-untouched Inv-loop μ-loop
+cast-untouched c = search needs
 
-array-read-receive-if : tie.Need-array-read-receive-if Inv-loop μ-loop
-array-read-receive-if c = search needs
+array-read-untouched : tie.Need-array-read-untouched Inv-loop μ-loop
+array-read-untouched c = search needs
 
-receive-if-requires : tie.Need-receive-if-requires Inv-loop μ-loop
-receive-if-requires c κs = search needs
+untouched-requires : tie.Need-untouched-requires Inv-loop μ-loop
+untouched-requires c κs = search needs
+
+add-i : tie.Need-add-i Inv-loop μ-loop
+add-i c = search needs
+
+loop-less : tie.Need-loop-less Inv-loop μ-loop
+loop-less c = search needs
+
+loop-again : tie.Need-loop-again Inv-loop μ-loop
+loop-again c =
+    let at = c .before .before .before .before .loop in
+    let a = c .before .before .before .before .before .args in
+    let node = getD (at .nodes) (at .i) noNode in
+    let still = untouched-still (getD (a .t3) (at .i) false) (a .message) (at .i) node (sym (c .before .untouched .ensures) ∙ c .if1 .taken) in
+    (omega arith, omega arith, at .inv .2, at .inv .3, sym (set-getD (at .nodes) (at .i) noNode) ∙ each-more _ _ _ _ node noNode (at .inv .4) (sym still))
+
+receive-requires : tie.Need-receive-requires Inv-loop μ-loop
+receive-requires c κs = search needs
 
 cast-nodes : tie.Need-cast-nodes Inv-loop μ-loop
 cast-nodes c = search needs
@@ -45,16 +66,19 @@ mul-nodes c = search needs
 array-set-from-nodes : tie.Need-array-set-from-nodes Inv-loop μ-loop
 array-set-from-nodes c = search needs
 
-add-i : tie.Need-add-i Inv-loop μ-loop
-add-i c = search needs
+add-i-2 : tie.Need-add-i-2 Inv-loop μ-loop
+add-i-2 c = search needs
 
-loop-less : tie.Need-loop-less Inv-loop μ-loop
-loop-less c = search needs
+loop-less-2 : tie.Need-loop-less-2 Inv-loop μ-loop
+loop-less-2 c = search needs
 
-loop-again : tie.Need-loop-again Inv-loop μ-loop
-loop-again c =
-    let at = c .before .before .before .loop in
-    (omega arith, omega arith, at .inv .2, at .inv .3, each-more _ _ _ _ _ _ (at .inv .4) (c .receive-if .ensures))
+loop-again-2 : tie.Need-loop-again-2 Inv-loop μ-loop
+loop-again-2 c =
+    let at = c .before .before .before .before .before .loop in
+    let a = c .before .before .before .before .before .before .args in
+    let node = getD (at .nodes) (at .i) noNode in
+    let touched = touched-receives (getD (a .t3) (at .i) false) (a .message) (at .i) node (sym (c .before .before .untouched .ensures) ∙ c .before .if1 .left) in
+    (omega arith, omega arith, at .inv .2, at .inv .3, each-more _ _ _ _ _ noNode (at .inv .4) (c .receive .ensures ∙ sym touched))
 
 returns : tie.Need-returns Inv-loop μ-loop
 returns c =
@@ -73,13 +97,17 @@ reach-all-spec =
     cast-node
     mul-node
     array-copy-out-node
-    cast-receive-if
-    array-read-receive-if
-    receive-if-requires
-    cast-nodes
-    mul-nodes
-    array-set-from-nodes
+    cast-untouched
+    array-read-untouched
+    untouched-requires
     add-i
     loop-less
     loop-again
+    receive-requires
+    cast-nodes
+    mul-nodes
+    array-set-from-nodes
+    add-i-2
+    loop-less-2
+    loop-again-2
     returns)

@@ -1,22 +1,24 @@
 -- The nodes passed have ticked, and those of them that called are known. Assumes nothing.
 use Prim.Native.Nat.{_-_, _≤_}
-use mathlib.Core.Path.{_≡_, refl, ap, _∙_}
+use mathlib.Core.Path.{_≡_, refl, ap, sym, _∙_}
 use native.Mathlib.Omega.{arith}
-use lib.ListN.{length}
+use lib.ListN.{length, getD}
+use lib.Seq.{set-getD}
+use Rattle.node.specs.declared.Command.{Command}
 use Rattle.node.specs.declared.Node.{Node}
 use Rattle.node.specs.declared.Reply.{Reply}
 use Rattle.node.specs.Ticks.{tickStep}
 use Rattle.bus.specs.Ticks.{tickedNodes, tickCallers}
-use Rattle.bus.specs.World.{noNode}
+use Rattle.bus.specs.World.{noNode, nodeAt}
 use Rattle.bus.proofs.EachOne.{each-more, each-next}
+use Rattle.bus.proofs.Resting.{rests-still}
 use Rattle.bus.proofs.WhoCalls.{callers-more}
 use borrow.Author.Needs.{needs}
 use Rattle.bus.proofs.ticks.tick_nodes.Statement.{statement}
 use Rattle.bus.proofs.ticks.tick_nodes.Tie as tie
 
 abbrev Inv-loop : tie.InvT-loop
-Inv-loop count times clock nodes₀ callers₀ i₀ nodes callers i =
-    (i ≤ count) × (count ≤ 16) × (length nodes₀ ≡ 16) × (nodes ≡ tickedNodes times clock i nodes₀) × (callers ≡ tickCallers times clock i nodes₀)
+Inv-loop count times clock nodes₀ callers₀ i₀ nodes callers i = (i ≤ count) × (count ≤ 16) × (length nodes₀ ≡ 16) × (nodes ≡ tickedNodes times clock i nodes₀) × (callers ≡ tickCallers times clock i nodes₀)
 
 abbrev μ-loop : tie.MeasureT-loop
 μ-loop count times clock nodes₀ callers₀ i₀ nodes callers i = count - i
@@ -33,6 +35,29 @@ mul-node c = search needs
 array-copy-out-node : tie.Need-array-copy-out-node Inv-loop μ-loop
 array-copy-out-node c = search needs
 
+rests-requires : tie.Need-rests-requires Inv-loop μ-loop
+rests-requires c κs = search needs
+
+add-i : tie.Need-add-i Inv-loop μ-loop
+add-i c = search needs
+
+loop-less : tie.Need-loop-less Inv-loop μ-loop
+loop-less c = search needs
+
+loop-again : tie.Need-loop-again Inv-loop μ-loop
+loop-again c =
+    let at = c .before .before .before .before .loop in
+    let a = c .before .before .before .before .before .args in
+    let node = getD (at .nodes) (at .i) noNode in
+    let still = sym (rests-still (a .times) (a .clock) node (sym (c .before .rests .ensures) ∙ c .if1 .taken)) in
+    let same = each-next _ (a .t1) (at .nodes) (at .i) noNode (at .inv .3) in (
+      omega arith,
+      omega arith,
+      at .inv .2,
+      sym (set-getD (at .nodes) (at .i) noNode) ∙ each-more _ _ _ _ node noNode (at .inv .3) (ap (λ (r : Reply). r .node) still),
+      callers-more (λ k. tickStep (a .times) (a .clock) (nodeAt (a .t1) k) .command) (at .i) (at .callers) (at .callers) Command.Nothing (at .inv .4) (ap (λ (r : Reply). r .command) still ∙ ap (λ (n : Node). tickStep (a .times) (a .clock) n .command) same) refl,
+    )
+
 tick-requires : tie.Need-tick-requires Inv-loop μ-loop
 tick-requires c κs = search needs
 
@@ -48,16 +73,16 @@ mul-nodes c = search needs
 array-set-from-nodes : tie.Need-array-set-from-nodes Inv-loop μ-loop
 array-set-from-nodes c = search needs
 
-add-i : tie.Need-add-i Inv-loop μ-loop
-add-i c = search needs
+add-i-2 : tie.Need-add-i-2 Inv-loop μ-loop
+add-i-2 c = search needs
 
-loop-less : tie.Need-loop-less Inv-loop μ-loop
-loop-less c = search needs
+loop-less-2 : tie.Need-loop-less-2 Inv-loop μ-loop
+loop-less-2 c = search needs
 
-loop-again : tie.Need-loop-again Inv-loop μ-loop
-loop-again c =
-    let at = c .before .before .before .before .before .loop in
-    let a = c .before .before .before .before .before .before .args in
+loop-again-2 : tie.Need-loop-again-2 Inv-loop μ-loop
+loop-again-2 c =
+    let at = c .before .before .before .before .before .before .before .loop in
+    let a = c .before .before .before .before .before .before .before .before .args in
     let told = c .before .before .tick .ensures in
     let same = each-next _ (a .t1) (at .nodes) (at .i) noNode (at .inv .3) in (
       omega arith,
@@ -84,12 +109,16 @@ tick-nodes-spec =
     cast-node
     mul-node
     array-copy-out-node
+    rests-requires
+    add-i
+    loop-less
+    loop-again
     tick-requires
     with-caller-requires
     cast-nodes
     mul-nodes
     array-set-from-nodes
-    add-i
-    loop-less
-    loop-again
+    add-i-2
+    loop-less-2
+    loop-again-2
     returns)
