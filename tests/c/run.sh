@@ -10,18 +10,29 @@ reference="$independent/reference_packed.c $independent/reference.c"
 flags="-std=c11 -Wall -Wextra -Werror -pedantic"
 checked="-O1 -g -fsanitize=address,undefined -fno-sanitize-recover=all"
 
+# Runs a test, shows its last line, and all of it where it fails.
+last_line() {
+    "$@" > $out/log || { cat $out/log; exit 1; }
+    tail -1 $out/log
+}
+
 rt check cxpi drill > /dev/null 2>&1 || rt check cxpi drill
-rt staticlib cxpi > /dev/null 2>&1
+rt staticlib cxpi > /dev/null 2>&1 || rt staticlib cxpi
 mkdir -p $out
 sh tests/c/symbols.sh $archive include/cxpi.h
 
+echo 'int main(void) { return 0; }' > $out/probe.c
 for compiler in gcc clang; do
-    command -v $compiler > /dev/null || continue
+    # gcc is needed, clang may be missing, or its sanitizers
+    if [ $compiler = clang ] && ! $compiler $checked $out/probe.c -o $out/probe 2> /dev/null; then
+        echo "no clang with sanitizers here"
+        continue
+    fi
     echo "$compiler:"
     $compiler $flags $checked -Iinclude tests/c/exports.c $archive -o $out/exports
-    $out/exports examples/set-t/plan.set | tail -1
+    last_line $out/exports examples/set-t/plan.set
     $compiler $flags $checked -Iinclude -I$independent tests/c/compare.c $reference $archive -o $out/compare_checked
-    $out/compare_checked 300000 30000 2 | tail -1
+    last_line $out/compare_checked 1000000 100000 2
     $compiler $flags $checked -Iinclude examples/firmware/main.c $archive -o $out/firmware
     $out/firmware | cmp - examples/firmware/stdout
     $out/firmware examples/set-t/plan.set | cmp - examples/firmware/stdout
