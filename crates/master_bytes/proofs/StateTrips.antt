@@ -1,14 +1,14 @@
 -- A master and its bytes, each back into the other.
 use Prim.Native.Nat.{ℕ, zero, suc, _+_, _*_, _-_, _/_, _%_, _<_}
 use mathlib.Core.Path.{_≡_, refl, ap, sym, _∙_}
-use mathlib.Core.Bool.{true}
+use mathlib.Core.Bool.{true, false}
 use mathlib.Core.List.{List, _++_}
 use lib.ListN.{length, getD, length-append, List·getD-append}
 use lib.Seq.{sets, getD-append-add}
 use lib.Dec.{ltb}
 use native.Mathlib.Omega.{arith}
 use native.Mathlib.Decide.{decLt}
-use borrow.Author.Tests.{eq-eqb, ltb-true, eqb-true}
+use borrow.Author.Tests.{eq-eqb, ne-eqb, ltb-true, eqb-true}
 use Rattle.folds.specs.Fold.{tab}
 use Rattle.folds.proofs.AllAny.{halves, all-at, all-intro}
 use Rattle.folds.proofs.Stores.{sets-append}
@@ -37,6 +37,10 @@ phase-byte-back (suc zero) h = refl
 phase-byte-back (suc (suc zero)) h = refl
 phase-byte-back (suc (suc (suc zero))) h = refl
 phase-byte-back (suc (suc (suc (suc b)))) h = absurd (omega arith)
+
+pub other-length : (s : List ℕ) → (length s ≡ 185 → ⊥) → isMaster s ≡ false
+unfolding isMaster
+other-length s n = rw (ne-eqb (length s) 185 n)
 
 -- the bytes before the counts
 front-long : (m : Master) → length (masterHead m ++ holdsBytes (m .holds)) ≡ 57
