@@ -58,7 +58,7 @@ module _ (r s : MasterReply.Reply) (is : r ≡ s) (state answer : List ℕ) (num
         → (number ≡ masterNumber s) × (after ≡ masterLeaves s state) × (said ≡ masterAnswers s answer)
     master-done bytes said z b g = rw (← is, c, eq-eqb (r .refusal) 0 z) (e, f, g ∙ ap (sets answer 0) b)
 
--- a refusal that changes the state is one
+-- a step that leaves the state was refused
 pub not-done : (refusal : ℕ) → changesState refusal ≡ false → refusal ≡ 0 → ⊥
 not-done refusal n z = let y : true ≡ false = (rw z at n) in absurd (let w : _≡_ {A = ℕ} 0 1 = cc in omega arith)
 
