@@ -1,7 +1,7 @@
 -- Laws of tests over the numbers below a bound.
 use Prim.Native.Nat.{ℕ, zero, suc, _+_, _-_, _≤_, _<_}
 use mathlib.Core.Path.{_≡_, refl, ap, sym, _∙_}
-use mathlib.Core.Bool.{Bool, true, false, _&&_, _||_, and-eq-true-iff, and-true, and-assoc}
+use mathlib.Core.Bool.{Bool, true, false, not, _&&_, _||_, and-eq-true-iff, and-true, and-assoc}
 use mathlib.Core.Logic.{_⊎_, inl, inr, ⊎-elim}
 use native.Mathlib.Omega.{arith}
 use native.Mathlib.Numerals.{add-one, unary-clauses}
@@ -108,3 +108,13 @@ any-at f (suc n) e i p = go (anyTo f n) refl (f n) refl (any-at f n)
     go false q false r rest = ⊎-elim (λ l. rest q i l) (λ l. rw l r) (below-cases i n p)
     go false q true r rest = let z : _≡_ {A = ℕ} 0 1 = cc (rw (q, r) at e) in absurd (omega arith)
     go true q b r rest = let z : _≡_ {A = ℕ} 0 1 = cc (rw q at e) in absurd (omega arith)
+
+-- a test fails of every number where it holds of none
+pub all-not : (f : ℕ → Bool) (n : ℕ) → allTo (λ i. not (f i)) n ≡ not (anyTo f n)
+unfolding allTo anyTo
+all-not f zero = refl
+all-not f (suc n) = rw (all-not f n) (go (anyTo f n) (f n))
+  where
+    go : (a b : Bool) → (not a && not b) ≡ not (a || b)
+    go true b = refl
+    go false b = refl

@@ -1,4 +1,5 @@
 pub mod Accepted
+mod Addresses
 pub mod Lookups
 pub mod Rows
 pub mod Unused

@@ -1,5 +1,6 @@
 -- The rules of a plan record, by the numbers of their refusals.
-use Prim.Native.Nat.{ℕ, _-_}
+use Prim.Native.Nat.{ℕ, _-_, _/_, _%_}
+use mathlib.Core.Path.{_≡_}
 use mathlib.Core.List.{List, [], _∷_}
 use mathlib.Core.Bool.{Bool, _&&_, _||_, not}
 use lib.Dec.{leb, ltb, eqb}
@@ -53,6 +54,12 @@ reqidBefore rows j = pick (eqb j 0) 0 (rowAt rows (j - 1) .reqid)
 unfoldable pub rowAfter : ℕ → ℕ → Row → Bool
 rowAfter nodecount before r =
     ltb before (r .reqid) && leb (r .reqid) 127 && (ltb (r .publisher) nodecount || eqb (r .publisher) masterNumber) && leb (r .kind) 1
+
+-- a row's bytes as one number, the ReqId lowest and the kind highest
+pub record RowWord (r : Row) (word : ℕ) : Type 0 where
+  pub reqid : word % 256 ≡ r .reqid
+  pub publisher : word / 256 % 256 ≡ r .publisher
+  pub kind : word / 16777216 ≡ r .kind
 
 unfoldable pub rowRight : ℕ → List Row → ℕ → Bool
 rowRight nodecount rows j = rowAfter nodecount (reqidBefore rows j) (rowAt rows j)

@@ -1,12 +1,9 @@
 // The rules of a plan record, judged once for reader, writer and every step.
 ghost use mathlib.Core.Path.{_≡_};
 ghost use Prim.Native.Nat.{_≤_, _<_};
-ghost use mathlib.Core.Bool.{_||_};
-ghost use lib.Dec.{ltb, eqb};
 ghost use Rattle.folds.specs.Fold.{allTo, tab};
-ghost use Rattle.plan.specs.Answers.{masterNumber};
 ghost use Rattle.plan.specs.Record.{rowsUsed};
-ghost use Rattle.plan.specs.Rules.{inRange, timesRight, entryRight, differs, nodeRight, nodesRight, rowAfter, rowRight, rowsRight, publishes, allPublish, planRefusal};
+ghost use Rattle.plan.specs.Rules.{inRange, timesRight, entryRight, nodeRight, nodesRight, RowWord, rowAfter, rowRight, rowsRight, publishes, allPublish, planRefusal};
 use crate::NodeEntry;
 use crate::Plan;
 use crate::Row;
@@ -41,38 +38,30 @@ fn entry_right(e: NodeEntry) -> bool
         & (e.reserved == 0)
 }
 
-// The address of node k is that of no node before it.
-fn address_new(nodes: [NodeEntry; 16], k: usize) -> bool
-    requires { ⌜ k < 16 ⌝ }
-    ensures { λ r. ⌜ r ≡ allTo (differs nodes k) k ⌝ }
+// A byte as an index of a table of 256.
+fn place(k: u8) -> usize
+    ensures { λ r. ⌜ (r ≡ k) × (r < 256) ⌝ }
 {
-    let address = nodes[k].address;
-    let mut j: usize = 0;
-    while j < k {
-        if nodes[j].address == address {
-            return false;
-        }
-        j += 1;
-    }
-    true
+    k as usize
 }
 
-fn node_right(nodes: [NodeEntry; 16], k: usize) -> bool
-    requires { ⌜ k < 16 ⌝ }
-    ensures { λ r. ⌜ r ≡ nodeRight nodes k ⌝ }
-{
-    entry_right(nodes[k]) & address_new(nodes, k)
-}
-
+// The addresses so far are marked, so that each is looked up once.
 fn each_node_right(nodes: [NodeEntry; 16], count: usize) -> bool
     requires { ⌜ count ≤ 16 ⌝ }
     ensures { λ r. ⌜ r ≡ allTo (nodeRight nodes) count ⌝ }
 {
+    let mut taken = [false; 256];
     let mut k: usize = 0;
     while k < count {
-        if !node_right(nodes, k) {
+        let entry = nodes[k];
+        if !entry_right(entry) {
             return false;
         }
+        let address = place(entry.address);
+        if taken[address] {
+            return false;
+        }
+        taken[address] = true;
         k += 1;
     }
     true
@@ -92,44 +81,44 @@ fn nodes_right(p: Plan) -> bool
     each_node_right(nodes, count as usize)
 }
 
-fn publisher_right(nodecount: u8, publisher: u8) -> bool
-    ensures { λ r. ⌜ r ≡ (ltb publisher nodecount || eqb publisher masterNumber) ⌝ }
+// A row as one number, since its four bytes are then loaded at once and judged beside those of other rows.
+fn row_word(row: Row) -> u32
+    ensures { λ r. ⌜ RowWord row r ⌝ }
 {
-    (publisher < nodecount) | (publisher == Plan::MASTER)
+    (row.reqid as u32)
+        + 256 * (row.publisher as u32)
+        + 65536 * (row.length as u32)
+        + 16777216 * (row.kind as u32)
 }
 
-// Early exits, which are foreseen, where combining the tests would make each row wait for all of them.
 fn row_after(nodecount: u8, before: u8, row: Row) -> bool
     ensures { λ r. ⌜ r ≡ rowAfter nodecount before row ⌝ }
 {
-    if before < row.reqid {
-        if row.reqid <= 127 {
-            if publisher_right(nodecount, row.publisher) {
-                return row.kind <= 1;
-            }
-            return false;
-        }
-        return false;
-    }
-    false
+    let word = row_word(row);
+    let reqid = word % 256;
+    let publisher = word / 256 % 256;
+    ((before as u32) < reqid)
+        & (reqid <= 127)
+        & ((publisher < (nodecount as u32)) | (publisher == (Plan::MASTER as u32)))
+        & (word / 16777216 <= 1)
 }
 
-// The row is passed, not the rows: an array handed over in a loop is copied in each turn.
+// No exit, so that the loop is compiled to vector instructions. The row is passed, not the rows: an array handed over in a loop is
+// copied in each turn.
 fn each_row_right(nodecount: u8, rows: [Row; 127], count: usize) -> bool
     requires { ⌜ count ≤ 127 ⌝ }
     ensures { λ r. ⌜ r ≡ allTo (rowRight nodecount rows) count ⌝ }
 {
+    let mut right: bool = true;
     let mut before: u8 = 0;
     let mut j: usize = 0;
     while j < count {
         let row = rows[j];
-        if !row_after(nodecount, before, row) {
-            return false;
-        }
+        right = right & row_after(nodecount, before, row);
         before = row.reqid;
         j += 1;
     }
-    true
+    right
 }
 
 fn rows_right(p: Plan) -> bool
@@ -151,13 +140,6 @@ pub(crate) fn rows_used(count: u16) -> usize
     ensures { λ r. ⌜ (r ≡ rowsUsed count) × (r ≤ 127) ⌝ }
 {
     if count < 127 { count as usize } else { 127 }
-}
-
-// A byte as an index of a table of 256.
-fn place(k: u8) -> usize
-    ensures { λ r. ⌜ (r ≡ k) × (r < 256) ⌝ }
-{
-    k as usize
 }
 
 // Which numbers publish one of the rows, in one pass over them.
