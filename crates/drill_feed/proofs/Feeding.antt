@@ -170,3 +170,8 @@ last-none d l e = rw (eq-eqb (d .held .count) 0 e) (record { count = omega arith
 pub last-one : (d : Drill) {l l′ : List ℕ} {r : ℕ} → (d .held .count ≡ 0 → ⊥) → Shown (lineSaid d) l l′ r → Shown (lastSaid d) l l′ r
 unfolding lastSaid
 last-one d n s = rw (ne-eqb (d .held .count) 0 n) s
+
+-- an LF ends it
+pub said-end : (d : Drill) → said d (10 ∷ []) ≡ lineSaid d
+unfolding said
+said-end d = append-nil (lineSaid d)

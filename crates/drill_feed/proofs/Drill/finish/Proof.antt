@@ -1,7 +1,7 @@
 use mathlib.Core.Path.{refl}
 use native.Mathlib.Omega.{arith}
-use Rattle.text.proofs.Appends.{shown}
-use Rattle.drill_feed.proofs.Feeding.{last-none, last-one}
+use Rattle.text.proofs.Appends.{appended-as, shown}
+use Rattle.drill_feed.proofs.Feeding.{last-none, last-one, said-end}
 use borrow.Author.Needs.{needs}
 use Rattle.drill_feed.proofs.Drill.finish.Statement.{statement}
 use Rattle.drill_feed.proofs.Drill.finish.Tie as tie
@@ -9,8 +9,11 @@ use Rattle.drill_feed.proofs.Drill.finish.Tie as tie
 returns : tie.Need-returns
 returns c = (last-none (c .before .before .before .before .args .self) _ (c .if1 .taken), (omega arith, refl))
 
-end-line-requires : tie.Need-end-line-requires
-end-line-requires c κs = search needs
+slice-aggregate-feed-from : tie.Need-slice-aggregate-feed-from
+slice-aggregate-feed-from c = search needs
+
+feed-from-requires : tie.Need-feed-from-requires
+feed-from-requires c κs = search needs
 
 below-requires : tie.Need-below-requires
 below-requires c κs = search needs
@@ -19,7 +22,12 @@ same-length : tie.Need-same-length
 same-length c = search needs
 
 returns-2 : tie.Need-returns-2
-returns-2 c = (last-one (c .before .before .before .before .before .before .before .before .before .before .args .self) (c .before .before .before .before .before .before .if1 .left) (shown (omega arith) (c .before .before .before .before .end-line .ensures .appended) (c .below .ensures .0)), c .below .ensures .1)
+returns-2 c = (
+  last-one (c .before .before .before .before .before .before .before .before .before .before .before .args .self) (c .before .before .before .before .before .before .before .if1 .left)
+      (shown (omega arith) (appended-as (said-end _) (c .before .before .before .before .feed-from .ensures .appended)) (c .below .ensures .0)),
+  c .below .ensures .1,
+)
 
 pub finish-spec : {M : Type 1} → statement M
-finish-spec = tie.close (tie.spec returns end-line-requires below-requires same-length returns-2)
+finish-spec =
+    tie.close (tie.spec returns slice-aggregate-feed-from feed-from-requires below-requires same-length returns-2)
