@@ -12,6 +12,7 @@ use master_bytes::answer_bytes;
 use master_bytes::event_of;
 use master_bytes::master_of;
 use master_bytes::put_master;
+use master_bytes::put_power_on;
 use reader::read_record;
 
 #[no_mangle]
@@ -21,8 +22,7 @@ pub extern "C" fn cxpi_master_power_on(state: &mut [u8]) -> u32
     if state.len() < master_bytes::LENGTH {
         return 10;
     }
-    let master = Master::power_on();
-    put_master(state, master);
+    put_power_on(state);
     0
 }
 

@@ -3,7 +3,7 @@ use Prim.Native.Nat.{ℕ, zero, suc, _+_, _*_, _-_, _/_, _%_, _<_}
 use mathlib.Core.Path.{_≡_, refl, ap, sym, _∙_}
 use mathlib.Core.Bool.{true, false}
 use mathlib.Core.List.{List, _++_}
-use lib.ListN.{length, getD, length-append, List·getD-append}
+use lib.ListN.{length, getD, set, replicate, length-append, List·getD-append}
 use lib.Seq.{sets, getD-append-add}
 use lib.Dec.{ltb}
 use native.Mathlib.Omega.{arith}
@@ -21,7 +21,7 @@ use Rattle.machine.proofs.ByteTrips.{state-back, state-byte-back, state-byte-lo
 use Rattle.master.specs.declared.Phase.{Phase}
 use Rattle.master.specs.declared.Hold.{Hold}
 use Rattle.master.specs.declared.Master.{Master}
-use Rattle.master.specs.Changes.{noHold}
+use Rattle.master.specs.Changes.{noHold, noCounts, powerOn}
 use Rattle.master_bytes.specs.States.{phaseByte, phaseOf, masterHead, holdBytes, holdByteAt, holdsBytes, holdOf, holdsOf, masterBytes, flagAt, isMaster, masterFrom, masterOf}
 use Rattle.master_bytes.proofs.Permissions.{hold-three}
 
@@ -53,6 +53,11 @@ unfolding masterBytes
 master-put m buffer head permissions x y z h p e f g =
     let u : 0 + length (masterHead m ++ holdsBytes (m .holds)) ≡ 57 = omega (arith, front-long m) in
     g ∙ rw (f, e, h, p, sets-append (masterHead m) (holdsBytes (m .holds)) buffer 0, ← u) (sets-append (masterHead m ++ holdsBytes (m .holds)) (m .counts) buffer 0)
+
+-- power-on: the front and the counts as they are
+pub power-on-put : (buffer front x y : List ℕ) → front ≡ set (replicate 57 0) 0 2 → x ≡ sets buffer 0 front → y ≡ sets x 57 noCounts → y ≡ sets buffer 0 (masterBytes powerOn)
+unfolding masterBytes holdsBytes tab
+power-on-put buffer front x y h e f = f ∙ rw (e, h) (sets-append (set (replicate 57 0) 0 2) noCounts buffer 0)
 
 module _ (m : Master) (holds-long : length (m .holds) ≡ 16) (counts-long : length (m .counts) ≡ 128) where
   front-byte : (o : ℕ) → o < 57 → byte (masterBytes m) o ≡ getD (masterHead m ++ holdsBytes (m .holds)) o 0

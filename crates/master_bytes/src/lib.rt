@@ -7,6 +7,7 @@ pub use answers::answer_bytes;
 pub use events::event_of;
 pub use states::master_of;
 pub use states::put_master;
+pub use states::put_power_on;
 
 // The bytes of a state.
 pub const LENGTH: usize = 185;

@@ -3,6 +3,7 @@ ghost use mathlib.Core.Path.{_≡_};
 ghost use Prim.Native.Nat.{_<_};
 ghost use lib.Seq.{sets};
 ghost use Rattle.folds.specs.Fold.{allTo};
+ghost use Rattle.master.specs.Changes.{powerOn};
 ghost use Rattle.master_bytes.specs.States.{phaseByte, phaseOf, masterHead, holdsBytes, holdOf, holdsOf, masterBytes, flagAt, isMaster, masterFrom, noMaster, masterOf};
 use blocks::byte_at;
 use blocks::long_number;
@@ -87,6 +88,17 @@ pub fn put_master(buffer: &mut [u8], master: Master)
     let permissions = holds_bytes(holds);
     put(buffer, 0, &head[..]);
     put(buffer, 9, &permissions[..]);
+    put(buffer, 57, &counts[..]);
+}
+
+// Puts the state at power-on at the front of a buffer: constants, which the compiler stores without reckoning them from a master.
+pub fn put_power_on(buffer: &mut [u8])
+    ensures { λ _. ⌜ now (buffer .exit) ≡ sets (now (buffer .entry)) 0 (masterBytes powerOn) ⌝ }
+{
+    let mut front = [0; 57];
+    front[0] = 2;
+    let counts = [Master::NO_COUNT; 128];
+    put(buffer, 0, &front[..]);
     put(buffer, 57, &counts[..]);
 }
 
