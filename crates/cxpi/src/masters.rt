@@ -13,7 +13,9 @@ use master_bytes::event_of;
 use master_bytes::master_of;
 use master_bytes::put_master;
 use master_bytes::put_power_on;
-use reader::read_record;
+use plan::Plan;
+use plan::plan_refusal;
+use reader::record_of;
 
 #[no_mangle]
 pub extern "C" fn cxpi_master_power_on(state: &mut [u8]) -> u32
@@ -43,13 +45,15 @@ fn refused(refusal: u8) -> Reply
 fn reply_to(plan: &[u8], state: &[u8], event: &[u8], room: usize) -> Reply
     ensures { λ r. ⌜ r ≡ masterReply (now (plan .entry)) (now (state .entry)) (now (event .entry)) room ⌝ }
 {
-    let read = read_record(plan);
-    let refusal = read.refusal;
+    if plan.len() != Plan::LENGTH {
+        return refused(1);
+    }
+    let record = record_of(plan);
+    let refusal = plan_refusal(record);
     if refusal == 0 {
         if room < master_bytes::ANSWER_LENGTH {
             return refused(10);
         }
-        let record = read.plan;
         return master_of(state).step_under(record, event_of(event));
     }
     refused(refusal)

@@ -11,7 +11,9 @@ use node_bytes::command_bytes;
 use node_bytes::event_of;
 use node_bytes::node_of;
 use node_bytes::put_node;
-use reader::read_record;
+use plan::Plan;
+use plan::plan_refusal;
+use reader::record_of;
 
 #[no_mangle]
 pub extern "C" fn cxpi_node_power_on(state: &mut [u8]) -> u32
@@ -40,13 +42,15 @@ fn refused(refusal: u8) -> Reply
 fn reply_to(plan: &[u8], me: u8, state: &[u8], event: &[u8], room: usize) -> Reply
     ensures { λ r. ⌜ r ≡ nodeReply (now (plan .entry)) me (now (state .entry)) (now (event .entry)) room ⌝ }
 {
-    let read = read_record(plan);
-    let refusal = read.refusal;
+    if plan.len() != Plan::LENGTH {
+        return refused(1);
+    }
+    let record = record_of(plan);
+    let refusal = plan_refusal(record);
     if refusal == 0 {
         if room < node_bytes::ANSWER_LENGTH {
             return refused(10);
         }
-        let record = read.plan;
         return node_of(state).step_under(record, me, event_of(event));
     }
     refused(refusal)
