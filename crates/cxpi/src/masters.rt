@@ -2,10 +2,13 @@
 ghost use mathlib.Core.Path.{_≡_};
 ghost use Prim.Native.Nat.{_+_, _*_};
 ghost use lib.ListN.{length};
+ghost use Rattle.packed.specs.Packed.{planIn};
+ghost use Rattle.master.specs.Step.{rowAsked};
 ghost use Rattle.master.specs.Changes.{powerOn, refuse};
 ghost use Rattle.cxpi.specs.MasterCalls.{masterRoom, masterOn, masterReply, masterNumber, changesState, masterLeaves, masterAnswers};
 use blocks::put;
 use master::Command;
+use master::Event;
 use master::Master;
 use master::Reply;
 use master_bytes::answer_bytes;
@@ -13,9 +16,8 @@ use master_bytes::event_of;
 use master_bytes::master_of;
 use master_bytes::put_master;
 use master_bytes::put_power_on;
+use plan::Lookup;
 use plan::Plan;
-use plan::plan_refusal;
-use reader::record_of;
 
 #[no_mangle]
 pub extern "C" fn cxpi_master_power_on(state: &mut [u8]) -> u32
@@ -41,20 +43,38 @@ fn refused(refusal: u8) -> Reply
     }
 }
 
-// The reply to a step on bytes, with nothing written yet. The plan is judged once, here.
+// The row that an event asks the packed plan for.
+fn row_for(plan: &[u8], event: Event) -> Lookup
+    requires { ⌜ length (now plan) ≡ 591 ⌝ }
+    ensures { λ r. ⌜ r ≡ rowAsked (planIn (now (plan .entry))) event ⌝ }
+{
+    match event {
+        Event::Tick => Lookup::Missing,
+        Event::Answer(answer) => packed::row_of(plan, answer.reqid),
+        Event::Pulse => Lookup::Missing,
+        Event::WakeAsk => Lookup::Missing,
+        Event::Permission(_) => Lookup::Missing,
+        Event::SleepAsk => Lookup::Missing,
+        Event::SendResult(_) => Lookup::Missing,
+    }
+}
+
+// The reply to a step on bytes, with nothing written yet. The plan is judged once, here, in its bytes.
 fn reply_to(plan: &[u8], state: &[u8], event: &[u8], room: usize) -> Reply
     ensures { λ r. ⌜ r ≡ masterReply (now (plan .entry)) (now (state .entry)) (now (event .entry)) room ⌝ }
 {
     if plan.len() != Plan::LENGTH {
         return refused(1);
     }
-    let record = record_of(plan);
-    let refusal = plan_refusal(record);
+    let refusal = packed::refusal_of(plan);
     if refusal == 0 {
         if room < master_bytes::ANSWER_LENGTH {
             return refused(10);
         }
-        return master_of(state).step_under(record, event_of(event));
+        let happened = event_of(event);
+        let row = row_for(plan, happened);
+        let times = packed::times_of(plan);
+        return master_of(state).step_with(packed::node_count(plan), times, row, happened);
     }
     refused(refusal)
 }

@@ -1,19 +1,21 @@
 // Calls on a node.
 ghost use mathlib.Core.Path.{_≡_};
 ghost use lib.ListN.{length};
+ghost use Rattle.packed.specs.Packed.{planIn};
+ghost use Rattle.node.specs.Step.{rowAsked};
 ghost use Rattle.node.specs.Changes.{powerOn, refuse};
 ghost use Rattle.cxpi.specs.NodeCalls.{nodeRoom, nodeOn, nodeReply, nodeLeaves, nodeAnswers};
 use blocks::put;
 use node::Command;
+use node::Event;
 use node::Node;
 use node::Reply;
 use node_bytes::command_bytes;
 use node_bytes::event_of;
 use node_bytes::node_of;
 use node_bytes::put_node;
+use plan::Lookup;
 use plan::Plan;
-use plan::plan_refusal;
-use reader::record_of;
 
 #[no_mangle]
 pub extern "C" fn cxpi_node_power_on(state: &mut [u8]) -> u32
@@ -38,20 +40,39 @@ fn refused(refusal: u8) -> Reply
     }
 }
 
-// The reply to a step on bytes, with nothing written yet. The plan is judged once, here.
+// The row that an event asks the packed plan for.
+fn row_for(plan: &[u8], event: Event) -> Lookup
+    requires { ⌜ length (now plan) ≡ 591 ⌝ }
+    ensures { λ r. ⌜ r ≡ rowAsked (planIn (now (plan .entry))) event ⌝ }
+{
+    match event {
+        Event::Tick(_) => Lookup::Missing,
+        Event::Pulse => Lookup::Missing,
+        Event::WakeAsk => Lookup::Missing,
+        Event::Permission(_) => Lookup::Missing,
+        Event::SleepMessage => Lookup::Missing,
+        Event::Request(reqid) => packed::row_of(plan, reqid),
+        Event::SendAsk(reqid) => packed::row_of(plan, reqid),
+    }
+}
+
+// The reply to a step on bytes, with nothing written yet. The plan is judged once, here, in its bytes.
 fn reply_to(plan: &[u8], me: u8, state: &[u8], event: &[u8], room: usize) -> Reply
     ensures { λ r. ⌜ r ≡ nodeReply (now (plan .entry)) me (now (state .entry)) (now (event .entry)) room ⌝ }
 {
     if plan.len() != Plan::LENGTH {
         return refused(1);
     }
-    let record = record_of(plan);
-    let refusal = plan_refusal(record);
+    let refusal = packed::refusal_of(plan);
     if refusal == 0 {
         if room < node_bytes::ANSWER_LENGTH {
             return refused(10);
         }
-        return node_of(state).step_under(record, me, event_of(event));
+        let happened = event_of(event);
+        let row = row_for(plan, happened);
+        let times = packed::times_of(plan);
+        let polled = packed::is_polled(plan, me);
+        return node_of(state).step_with(packed::node_count(plan), times, me, polled, row, happened);
     }
     refused(refusal)
 }

@@ -1,5 +1,7 @@
 // What master and node share: their states, a table of sequence counts by ReqId, and states and flags as bytes.
 ghost use mathlib.Core.Path.{_≡_};
+ghost use Prim.Native.Nat.{_≤_};
+ghost use lib.Dec.{ltb, eqb};
 ghost use lib.ListN.{getD, set};
 ghost use Rattle.machine.specs.Counts.{countsBelow};
 
@@ -40,15 +42,22 @@ pub fn with_count(mut counts: [u8; 128], reqid: u8, count: u8) -> [u8; 128]
     counts
 }
 
-// Whether every count lies below a limit. No exit, so that the loop is compiled to vector instructions.
+// 0 where a count lies below a limit, 1 where it does not.
+fn past(count: u8, limit: u8) -> u16
+    ensures { λ r. ⌜ (eqb r 0 ≡ ltb count limit) × (r ≤ 1) ⌝ }
+{
+    ((count as u16) + 256 - (limit as u16)) / 256
+}
+
+// Whether every count lies below a limit. No exit and no test, so that a loop of vector instructions, or of three for a count, is compiled of it.
 pub fn counts_below(counts: [u8; 128], limit: u8) -> bool
     ensures { λ r. ⌜ r ≡ countsBelow limit counts ⌝ }
 {
-    let mut right: bool = true;
+    let mut above: u16 = 0;
     let mut i: usize = 0;
     while i < 128 {
-        right = right & (counts[i] < limit);
+        above += past(counts[i], limit);
         i += 1;
     }
-    right
+    above == 0
 }

@@ -2,3 +2,4 @@ pub mod Clock
 pub mod InRange
 pub mod InRun
 pub mod Refusals
+pub mod StepWith

@@ -1,8 +1,11 @@
 -- The master's step.
+use Prim.Native.Nat.{ℕ}
 use mathlib.Core.Bool.{Bool, true, _&&_}
 use lib.Dec.{ltb, eqb}
 use Rattle.folds.specs.Fold.{pick}
+use Rattle.plan.specs.declared.Times.{Times}
 use Rattle.plan.specs.declared.Plan.{Plan}
+use Rattle.plan.specs.declared.Lookup.{Lookup}
 use Rattle.plan.specs.Rules.{planRefusal}
 use Rattle.plan.specs.Find.{findRow}
 use Rattle.master.specs.declared.Master.{Master}
@@ -45,3 +48,25 @@ stepUnder p m e =
 -- "plan 4 to 8 first"
 abbrev pub masterStep : Plan → Master → Event → Reply
 masterStep p m e = pick (eqb (planRefusal p) 0) (stepUnder p m e) (refuse m (planRefusal p))
+
+-- the same of what a step needs of a plan alone: the number of nodes, the times, and the row that the event asks for
+abbrev pub rowAsked : Plan → Event → Lookup
+rowAsked p Event.Tick = Lookup.Missing
+rowAsked p (Event.Answer a) = findRow p (a .reqid)
+rowAsked p Event.Pulse = Lookup.Missing
+rowAsked p Event.WakeAsk = Lookup.Missing
+rowAsked p (Event.Permission permitted) = Lookup.Missing
+rowAsked p Event.SleepAsk = Lookup.Missing
+rowAsked p (Event.SendResult sent) = Lookup.Missing
+
+abbrev pub actWith : ℕ → Times → Lookup → Master → Event → Reply
+actWith n t row m Event.Tick = tickStep t m
+actWith n t row m (Event.Answer a) = answerStep row a m
+actWith n t row m Event.Pulse = wakeUpStep m
+actWith n t row m Event.WakeAsk = wakeUpStep m
+actWith n t row m (Event.Permission permitted) = permissionStep permitted m
+actWith n t row m Event.SleepAsk = sleepAskStep n m
+actWith n t row m (Event.SendResult sent) = sendResultStep sent m
+
+abbrev pub stepWith : ℕ → Times → Lookup → Master → Event → Reply
+stepWith n t row m e = pick (inRange n t m) (pick (eventRight e) (actWith n t row m e) (refuse m 15)) (refuse m 11)

@@ -1,9 +1,11 @@
 // The master machine.
 ghost use mathlib.Core.Path.{_≡_};
 ghost use Rattle.master.specs.Changes.{powerOn, silent, commands, refuse};
-ghost use Rattle.master.specs.Step.{eventRight, act, stepUnder, masterStep};
+ghost use Rattle.master.specs.Step.{eventRight, rowAsked, actWith, stepWith, stepUnder, masterStep};
 use machine::State;
+use plan::Lookup;
 use plan::Plan;
+use plan::Times;
 use plan::plan_refusal;
 
 mod answers;
@@ -132,6 +134,21 @@ fn is_right(event: Event) -> bool
     }
 }
 
+// The row that an event asks a plan for.
+fn row_asked(plan: Plan, event: Event) -> Lookup
+    ensures { λ r. ⌜ r ≡ rowAsked plan event ⌝ }
+{
+    match event {
+        Event::Tick => Lookup::Missing,
+        Event::Answer(answer) => plan::find_row(plan, answer.reqid),
+        Event::Pulse => Lookup::Missing,
+        Event::WakeAsk => Lookup::Missing,
+        Event::Permission(_) => Lookup::Missing,
+        Event::SleepAsk => Lookup::Missing,
+        Event::SendResult(_) => Lookup::Missing,
+    }
+}
+
 impl Master {
     // Counts lie below this, which stands for no count.
     pub const NO_COUNT: u8 = 4;
@@ -156,23 +173,32 @@ impl Master {
     }
 
     // What an event does once plan, state and event are judged.
-    pub fn act(self, plan: Plan, event: Event) -> Reply
-        ensures { λ r. ⌜ r ≡ act plan self event ⌝ }
+    fn act_with(self, nodecount: u8, times: Times, row: Lookup, event: Event) -> Reply
+        ensures { λ r. ⌜ r ≡ actWith nodecount times row self event ⌝ }
     {
         match event {
-            Event::Tick => {
-                let times = plan.times;
-                self.tick(times)
-            }
-            Event::Answer(answer) => {
-                let row = plan::find_row(plan, answer.reqid);
-                self.answer(row, answer)
-            }
+            Event::Tick => self.tick(times),
+            Event::Answer(answer) => self.answer(row, answer),
             Event::Pulse => self.wake_up(),
             Event::WakeAsk => self.wake_up(),
             Event::Permission(permitted) => self.permit(permitted),
-            Event::SleepAsk => self.sleep_ask(plan.nodecount),
+            Event::SleepAsk => self.sleep_ask(nodecount),
             Event::SendResult(sent) => self.send_result(sent),
+        }
+    }
+
+    // A step of the master with what it needs of a plan that is judged: the row is the one that the event asks for.
+    pub fn step_with(self, nodecount: u8, times: Times, row: Lookup, event: Event) -> Reply
+        ensures { λ r. ⌜ r ≡ stepWith nodecount times row self event ⌝ }
+    {
+        if self.in_range(nodecount, times) {
+            if is_right(event) {
+                self.act_with(nodecount, times, row, event)
+            } else {
+                refuse(self, 15)
+            }
+        } else {
+            refuse(self, 11)
         }
     }
 
@@ -181,15 +207,8 @@ impl Master {
         ensures { λ r. ⌜ r ≡ stepUnder plan self event ⌝ }
     {
         let times = plan.times;
-        if self.in_range(plan.nodecount, times) {
-            if is_right(event) {
-                self.act(plan, event)
-            } else {
-                refuse(self, 15)
-            }
-        } else {
-            refuse(self, 11)
-        }
+        let row = row_asked(plan, event);
+        self.step_with(plan.nodecount, times, row, event)
     }
 
     // A step of the master under a plan.

@@ -6,3 +6,4 @@ pub mod Refusals
 pub mod Settling
 pub mod WithClock
 pub mod WithoutClock
+pub mod StepWith

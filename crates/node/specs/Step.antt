@@ -3,7 +3,9 @@ use Prim.Native.Nat.{ℕ}
 use mathlib.Core.Bool.{Bool, true}
 use lib.Dec.{ltb, eqb}
 use Rattle.folds.specs.Fold.{pick}
+use Rattle.plan.specs.declared.Times.{Times}
 use Rattle.plan.specs.declared.Plan.{Plan}
+use Rattle.plan.specs.declared.Lookup.{Lookup}
 use Rattle.plan.specs.Rules.{planRefusal}
 use Rattle.plan.specs.Answers.{isPolled}
 use Rattle.plan.specs.Find.{findRow}
@@ -48,3 +50,30 @@ stepUnder p me n e =
 -- "plan 4 to 8 first"
 abbrev pub nodeStep : Plan → ℕ → Node → Event → Reply
 nodeStep p me n e = pick (eqb (planRefusal p) 0) (stepUnder p me n e) (refuse n (planRefusal p))
+
+-- the same of what a step needs of a plan alone: the number of nodes, the times, whether the node is polled, and the row that the event asks for
+abbrev pub rowAsked : Plan → Event → Lookup
+rowAsked p (Event.Tick clock) = Lookup.Missing
+rowAsked p Event.Pulse = Lookup.Missing
+rowAsked p Event.WakeAsk = Lookup.Missing
+rowAsked p (Event.Permission permitted) = Lookup.Missing
+rowAsked p Event.SleepMessage = Lookup.Missing
+rowAsked p (Event.Request reqid) = findRow p reqid
+rowAsked p (Event.SendAsk reqid) = findRow p reqid
+
+abbrev pub actWith : Times → ℕ → Bool → Lookup → Node → Event → Reply
+actWith t me polled row n (Event.Tick clock) = tickStep t clock n
+actWith t me polled row n Event.Pulse = pulseStep n
+actWith t me polled row n Event.WakeAsk = wakeAskStep n
+actWith t me polled row n (Event.Permission permitted) = permissionStep permitted n
+actWith t me polled row n Event.SleepMessage = sleepMessageStep n
+actWith t me polled row n (Event.Request reqid) = requestStep me row n
+actWith t me polled row n (Event.SendAsk reqid) = sendAskStep me polled row n
+
+abbrev pub stepWith : ℕ → Times → ℕ → Bool → Lookup → Node → Event → Reply
+stepWith nodecount t me polled row n e =
+    pick (ltb me nodecount)
+    (pick (inRange t n)
+    (pick (eventRight e) (actWith t me polled row n e) (refuse n 15))
+    (refuse n 11))
+    (refuse n 11)

@@ -1,10 +1,11 @@
 // The node machine.
 ghost use mathlib.Core.Path.{_≡_};
 ghost use Rattle.node.specs.Changes.{powerOn, toSleep, toNormal, toStandby, silent, calls, refuse};
-ghost use Rattle.node.specs.Step.{eventRight, act, stepUnder, nodeStep};
+ghost use Rattle.node.specs.Step.{eventRight, rowAsked, actWith, stepWith, stepUnder, nodeStep};
 use machine::State;
 use plan::Lookup;
 use plan::Plan;
+use plan::Times;
 use plan::plan_refusal;
 
 mod range;
@@ -116,6 +117,21 @@ fn is_right(event: Event) -> bool
     }
 }
 
+// The row that an event asks a plan for.
+fn row_asked(plan: Plan, event: Event) -> Lookup
+    ensures { λ r. ⌜ r ≡ rowAsked plan event ⌝ }
+{
+    match event {
+        Event::Tick(_) => Lookup::Missing,
+        Event::Pulse => Lookup::Missing,
+        Event::WakeAsk => Lookup::Missing,
+        Event::Permission(_) => Lookup::Missing,
+        Event::SleepMessage => Lookup::Missing,
+        Event::Request(reqid) => plan::find_row(plan, reqid),
+        Event::SendAsk(reqid) => plan::find_row(plan, reqid),
+    }
+}
+
 impl Node {
     // Sequence counts lie below this and follow each other modulo it.
     pub const COUNTS: u8 = 4;
@@ -174,35 +190,36 @@ impl Node {
     }
 
     // What an event does once plan, state and event are judged.
-    pub fn act(self, plan: Plan, me: u8, event: Event) -> Reply
-        ensures { λ r. ⌜ r ≡ act plan me self event ⌝ }
+    fn act_with(self, times: Times, me: u8, polled: bool, row: Lookup, event: Event) -> Reply
+        ensures { λ r. ⌜ r ≡ actWith times me polled row self event ⌝ }
     {
         match event {
-            Event::Tick(clock) => {
-                let times = plan.times;
-                self.tick(times, clock)
-            }
+            Event::Tick(clock) => self.tick(times, clock),
             Event::Pulse => self.pulse(),
             Event::WakeAsk => self.wake_ask(),
             Event::Permission(permitted) => self.permit(permitted),
             Event::SleepMessage => self.sleep_message(),
-            Event::Request(reqid) => self.request(me, plan::find_row(plan, reqid)),
-            Event::SendAsk(reqid) => {
-                let polled = plan.is_polled(me);
-                self.send_ask(me, polled, plan::find_row(plan, reqid))
-            }
+            Event::Request(_) => self.request(me, row),
+            Event::SendAsk(_) => self.send_ask(me, polled, row),
         }
     }
 
-    // A step of node number `me` under a plan that is judged.
-    pub fn step_under(self, plan: Plan, me: u8, event: Event) -> Reply
-        ensures { λ r. ⌜ r ≡ stepUnder plan me self event ⌝ }
+    // A step of node number `me` with what it needs of a plan that is judged: the row is the one that the event asks for.
+    pub fn step_with(
+        self,
+        nodecount: u8,
+        times: Times,
+        me: u8,
+        polled: bool,
+        row: Lookup,
+        event: Event,
+    ) -> Reply
+        ensures { λ r. ⌜ r ≡ stepWith nodecount times me polled row self event ⌝ }
     {
-        let times = plan.times;
-        if me < plan.nodecount {
+        if me < nodecount {
             if self.in_range(times) {
                 if is_right(event) {
-                    self.act(plan, me, event)
+                    self.act_with(times, me, polled, row, event)
                 } else {
                     refuse(self, 15)
                 }
@@ -212,6 +229,16 @@ impl Node {
         } else {
             refuse(self, 11)
         }
+    }
+
+    // A step of node number `me` under a plan that is judged.
+    pub fn step_under(self, plan: Plan, me: u8, event: Event) -> Reply
+        ensures { λ r. ⌜ r ≡ stepUnder plan me self event ⌝ }
+    {
+        let times = plan.times;
+        let row = row_asked(plan, event);
+        let polled = plan.is_polled(me);
+        self.step_with(plan.nodecount, times, me, polled, row, event)
     }
 
     // A step of node number `me` under a plan.

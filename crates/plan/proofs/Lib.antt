@@ -1,5 +1,5 @@
 pub mod Accepted
-mod Addresses
+pub mod Addresses
 pub mod Lookups
 pub mod Rows
 pub mod Unused

@@ -7,7 +7,10 @@ mod find;
 mod rules;
 
 pub use find::find_row;
+pub use rules::entry_right;
 pub use rules::plan_refusal;
+pub use rules::row_after;
+pub use rules::times_right;
 
 pub struct NodeEntry {
     pub address: u8,

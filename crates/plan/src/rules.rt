@@ -15,7 +15,7 @@ fn in_range(least: u16, most: u16, x: u16) -> bool
     (least <= x) & (x <= most)
 }
 
-fn times_right(t: Times) -> bool
+pub fn times_right(t: Times) -> bool
     ensures { λ r. ⌜ r ≡ timesRight t ⌝ }
 {
     in_range(1, 30000, t.window)
@@ -28,7 +28,7 @@ fn times_right(t: Times) -> bool
         & (t.stop <= t.sleep)
 }
 
-fn entry_right(e: NodeEntry) -> bool
+pub fn entry_right(e: NodeEntry) -> bool
     ensures { λ r. ⌜ r ≡ entryRight e ⌝ }
 {
     (1 <= e.address)
@@ -91,7 +91,7 @@ fn row_word(row: Row) -> u32
         + 16777216 * (row.kind as u32)
 }
 
-fn row_after(nodecount: u8, before: u8, row: Row) -> bool
+pub fn row_after(nodecount: u8, before: u8, row: Row) -> bool
     ensures { λ r. ⌜ r ≡ rowAfter nodecount before row ⌝ }
 {
     let word = row_word(row);
@@ -99,7 +99,7 @@ fn row_after(nodecount: u8, before: u8, row: Row) -> bool
     let publisher = word / 256 % 256;
     ((before as u32) < reqid)
         & (reqid <= 127)
-        & ((publisher < (nodecount as u32)) | (publisher == (Plan::MASTER as u32)))
+        & ((publisher + 1) % 256 <= (nodecount as u32))
         & (word / 16777216 <= 1)
 }
 

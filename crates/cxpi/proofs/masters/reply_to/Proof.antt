@@ -1,5 +1,8 @@
+-- By the tests, in their order. Assumes nothing.
+use mathlib.Core.Path.{sym, _∙_}
+use borrow.Author.Tests.{ne-eqb}
+use Rattle.cxpi.proofs.InPlace.{master-refused, master-short, master-done}
 use borrow.Author.Needs.{needs}
-use borrow.Author.Tests.{eq-eqb, le-ltb, lt-ltb, ne-eqb}
 use Rattle.cxpi.proofs.masters.reply_to.Statement.{statement}
 use Rattle.cxpi.proofs.masters.reply_to.Tie as tie
 
@@ -9,61 +12,48 @@ refused-requires c κs = search needs
 returns : tie.Need-returns
 returns c = rw (c .refused .ensures, ne-eqb _ _ (c .before .if1 .taken))
 
-record-of-requires : tie.Need-record-of-requires
-record-of-requires c κs = search needs
-
-plan-refusal-requires : tie.Need-plan-refusal-requires
-plan-refusal-requires c κs = search needs
+refusal-of-requires : tie.Need-refusal-of-requires
+refusal-of-requires c κs = search needs
 
 refused-requires-2 : tie.Need-refused-requires-2
 refused-requires-2 c κs = search needs
 
 returns-2 : tie.Need-returns-2
 returns-2 c =
-    rw (
-      c .refused2 .ensures,
-      eq-eqb _ _ (c .before .before .before .before .before .if1 .left),
-      ← c .before .before .before .before .record-of .ensures,
-      ← c .before .before .before .plan-refusal .ensures,
-      eq-eqb _ _ (c .before .before .if2 .taken),
-      lt-ltb _ _ (c .before .if3 .taken),
-    )
-
-master-of-requires : tie.Need-master-of-requires
-master-of-requires c κs = search needs
+    let a = c .before .before .before .before .before .before .before .before .args in
+    c .refused2 .ensures ∙ master-short (a .plan .now) (a .state .now) (a .event .now) (a .room) (c .before .before .before .before .if1 .left) (sym (c .before .before .before .refusal-of .ensures) ∙ c .before .before .if2 .taken) (c .before .if3 .taken)
 
 event-of-requires : tie.Need-event-of-requires
 event-of-requires c κs = search needs
 
-step-under-requires : tie.Need-step-under-requires
-step-under-requires c κs = search needs
+row-for-requires : tie.Need-row-for-requires
+row-for-requires c κs = search needs
+
+times-of-requires : tie.Need-times-of-requires
+times-of-requires c κs = search needs
+
+master-of-requires : tie.Need-master-of-requires
+master-of-requires c κs = search needs
+
+node-count-requires : tie.Need-node-count-requires
+node-count-requires c κs = search needs
+
+step-with-requires : tie.Need-step-with-requires
+step-with-requires c κs = search needs
 
 returns-3 : tie.Need-returns-3
 returns-3 c =
-    rw (
-      c .step-under .ensures,
-      c .before .event-of .ensures,
-      c .before .before .master-of .ensures,
-      eq-eqb _ _ (c .before .before .before .before .before .before .before .if1 .left),
-      ← c .before .before .before .before .before .before .record-of .ensures,
-      ← c .before .before .before .before .before .plan-refusal .ensures,
-      eq-eqb _ _ (c .before .before .before .before .if2 .taken),
-      le-ltb _ _ (c .before .before .before .if3 .left),
-    )
+    let a = c .before .before .before .before .before .before .before .before .before .before .before .before .before .args in
+    rw (c .step-with .ensures, c .before .node-count .ensures, c .before .before .master-of .ensures, c .before .before .before .times-of .ensures, c .before .before .before .before .row-for .ensures, c .before .before .before .before .before .event-of .ensures)
+    (master-done (a .plan .now) (a .state .now) (a .event .now) (a .room) (c .before .before .before .before .before .before .before .before .before .if1 .left) (sym (c .before .before .before .before .before .before .before .before .refusal-of .ensures) ∙ c .before .before .before .before .before .before .before .if2 .taken) (c .before .before .before .before .before .before .if3 .left))
 
 refused-requires-3 : tie.Need-refused-requires-3
 refused-requires-3 c κs = search needs
 
 returns-4 : tie.Need-returns-4
 returns-4 c =
-    rw (
-      c .refused3 .ensures,
-      eq-eqb _ _ (c .before .before .before .before .if1 .left),
-      ← c .before .before .before .record-of .ensures,
-      ← c .before .before .plan-refusal .ensures,
-      ne-eqb _ _ (c .before .if2 .left),
-      ne-eqb _ _ (c .before .if2 .left),
-    )
+    let a = c .before .before .before .before .before .before .before .args in
+    rw (c .refused3 .ensures, c .before .before .refusal-of .ensures) (master-refused (a .plan .now) (a .state .now) (a .event .now) (a .room) (c .before .before .before .if1 .left) (λ w. c .before .if2 .left (c .before .before .refusal-of .ensures ∙ w)))
 
 pub reply-to-spec : {M : Type 1} → statement M
 reply-to-spec =
@@ -71,13 +61,15 @@ reply-to-spec =
     (tie.spec
     refused-requires
     returns
-    record-of-requires
-    plan-refusal-requires
+    refusal-of-requires
     refused-requires-2
     returns-2
-    master-of-requires
     event-of-requires
-    step-under-requires
+    row-for-requires
+    times-of-requires
+    master-of-requires
+    node-count-requires
+    step-with-requires
     returns-3
     refused-requires-3
     returns-4)

@@ -1,59 +1,19 @@
+-- The step with what it needs of the plan. Assumes nothing.
+use Rattle.master.proofs.StepWith.{step-with}
 use borrow.Author.Needs.{needs}
 use Rattle.master.proofs.Master.step_under.Statement.{statement}
 use Rattle.master.proofs.Master.step_under.Tie as tie
 
-in-range-requires : tie.Need-in-range-requires
-in-range-requires c κs = search needs
+row-asked-requires : tie.Need-row-asked-requires
+row-asked-requires c κs = search needs
 
-is-right-requires : tie.Need-is-right-requires
-is-right-requires c κs = search needs
-
-act-requires : tie.Need-act-requires
-act-requires c κs = search needs
-
-refuse-requires : tie.Need-refuse-requires
-refuse-requires c κs = search needs
-
-refuse-requires-2 : tie.Need-refuse-requires-2
-refuse-requires-2 c κs = search needs
+step-with-requires : tie.Need-step-with-requires
+step-with-requires c κs = search needs
 
 returns : tie.Need-returns
 returns c =
-    rw (
-      c .act .ensures,
-      ← c .before .before .is-right .ensures,
-      ← c .before .before .before .before .in-range .ensures,
-      c .before .before .before .if1 .taken,
-      c .before .if2 .taken,
-    )
-
-returns-2 : tie.Need-returns-2
-returns-2 c =
-    rw (
-      c .refuse .ensures,
-      ← c .before .before .is-right .ensures,
-      ← c .before .before .before .before .in-range .ensures,
-      c .before .before .before .if1 .taken,
-      c .before .if2 .left,
-    )
-
-returns-3 : tie.Need-returns-3
-returns-3 c =
-    rw (
-      c .refuse2 .ensures,
-      ← c .before .before .in-range .ensures,
-      c .before .if1 .left,
-    )
+    let a = c .before .before .before .args in
+    rw (c .step-with .ensures, c .before .row-asked .ensures) (step-with (a .plan) (a .self) (a .event))
 
 pub step-under-spec : {M : Type 1} → statement M
-step-under-spec =
-    tie.close
-    (tie.spec
-    in-range-requires
-    is-right-requires
-    act-requires
-    refuse-requires
-    refuse-requires-2
-    returns
-    returns-2
-    returns-3)
+step-under-spec = tie.close (tie.spec row-asked-requires step-with-requires returns)

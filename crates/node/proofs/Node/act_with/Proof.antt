@@ -1,6 +1,7 @@
+-- By the event. Assumes nothing.
 use borrow.Author.Needs.{needs}
-use Rattle.node.proofs.Node.act.Statement.{statement}
-use Rattle.node.proofs.Node.act.Tie as tie
+use Rattle.node.proofs.Node.act_with.Statement.{statement}
+use Rattle.node.proofs.Node.act_with.Tie as tie
 
 enum-known-event : tie.Need-enum-known-event
 enum-known-event c = search needs
@@ -32,81 +33,41 @@ enum-told-3 c = search needs
 sleep-message-requires : tie.Need-sleep-message-requires
 sleep-message-requires c κs = search needs
 
-enum-known-event-3 : tie.Need-enum-known-event-3
-enum-known-event-3 c = search needs
-
-find-row-requires : tie.Need-find-row-requires
-find-row-requires c κs = search needs
+enum-told-4 : tie.Need-enum-told-4
+enum-told-4 c = search needs
 
 request-requires : tie.Need-request-requires
 request-requires c κs = search needs
 
-enum-known-event-4 : tie.Need-enum-known-event-4
-enum-known-event-4 c = search needs
-
-is-polled-requires : tie.Need-is-polled-requires
-is-polled-requires c κs = search needs
-
-find-row-requires-2 : tie.Need-find-row-requires-2
-find-row-requires-2 c κs = search needs
+enum-told-5 : tie.Need-enum-told-5
+enum-told-5 c = search needs
 
 send-ask-requires : tie.Need-send-ask-requires
 send-ask-requires c κs = search needs
 
 returns : tie.Need-returns
-returns c =
-    rw (
-      c .tick .ensures,
-      c .before .before .before .event .given .1,
-    )
+returns c = rw (c .tick .ensures, c .before .before .event .given .1)
 
 returns-2 : tie.Need-returns-2
-returns-2 c =
-    rw (
-      c .pulse .ensures,
-      c .before .enum-told .given .1,
-    )
+returns-2 c = rw (c .pulse .ensures, c .before .enum-told .given .1)
 
 returns-3 : tie.Need-returns-3
-returns-3 c =
-    rw (
-      c .wake-ask .ensures,
-      c .before .enum-told2 .given .1,
-    )
+returns-3 c = rw (c .wake-ask .ensures, c .before .enum-told2 .given .1)
 
 returns-4 : tie.Need-returns-4
-returns-4 c =
-    rw (
-      c .permit .ensures,
-      c .before .before .event2 .given .1,
-    )
+returns-4 c = rw (c .permit .ensures, c .before .before .event2 .given .1)
 
 returns-5 : tie.Need-returns-5
-returns-5 c =
-    rw (
-      c .sleep-message .ensures,
-      c .before .enum-told3 .given .1,
-    )
+returns-5 c = rw (c .sleep-message .ensures, c .before .enum-told3 .given .1)
 
 returns-6 : tie.Need-returns-6
-returns-6 c =
-    rw (
-      c .request .ensures,
-      c .before .find-row .ensures,
-      c .before .before .before .event3 .given .1,
-    )
+returns-6 c = rw (c .request .ensures, c .before .enum-told4 .given .1)
 
 returns-7 : tie.Need-returns-7
-returns-7 c =
-    rw (
-      c .send-ask .ensures,
-      c .before .find-row2 .ensures,
-      c .before .before .is-polled .ensures,
-      c .before .before .before .before .event4 .given .1,
-    )
+returns-7 c = rw (c .send-ask .ensures, c .before .enum-told5 .given .1)
 
-pub act-spec : {M : Type 1} → statement M
-act-spec =
+pub act-with-spec : {M : Type 1} → statement M
+act-with-spec =
     tie.close
     (tie.spec
     enum-known-event
@@ -119,12 +80,9 @@ act-spec =
     permit-requires
     enum-told-3
     sleep-message-requires
-    enum-known-event-3
-    find-row-requires
+    enum-told-4
     request-requires
-    enum-known-event-4
-    is-polled-requires
-    find-row-requires-2
+    enum-told-5
     send-ask-requires
     returns
     returns-2

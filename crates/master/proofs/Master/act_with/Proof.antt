@@ -1,6 +1,6 @@
 use borrow.Author.Needs.{needs}
-use Rattle.master.proofs.Master.act.Statement.{statement}
-use Rattle.master.proofs.Master.act.Tie as tie
+use Rattle.master.proofs.Master.act_with.Statement.{statement}
+use Rattle.master.proofs.Master.act_with.Tie as tie
 
 enum-told : tie.Need-enum-told
 enum-told c = search needs
@@ -10,9 +10,6 @@ tick-requires c κs = search needs
 
 enum-known-event : tie.Need-enum-known-event
 enum-known-event c = search needs
-
-find-row-requires : tie.Need-find-row-requires
-find-row-requires c κs = search needs
 
 answer-requires : tie.Need-answer-requires
 answer-requires c κs = search needs
@@ -51,15 +48,14 @@ returns : tie.Need-returns
 returns c =
     rw (
       c .tick .ensures,
-      c .before .before .enum-told .given .1,
+      c .before .enum-told .given .1,
     )
 
 returns-2 : tie.Need-returns-2
 returns-2 c =
     rw (
       c .answer .ensures,
-      c .before .find-row .ensures,
-      c .before .before .before .event .given .1,
+      c .before .before .event .given .1,
     )
 
 returns-3 : tie.Need-returns-3
@@ -97,14 +93,13 @@ returns-7 c =
       c .before .before .event3 .given .1,
     )
 
-pub act-spec : {M : Type 1} → statement M
-act-spec =
+pub act-with-spec : {M : Type 1} → statement M
+act-with-spec =
     tie.close
     (tie.spec
     enum-told
     tick-requires
     enum-known-event
-    find-row-requires
     answer-requires
     enum-told-2
     wake-up-requires

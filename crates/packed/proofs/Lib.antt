@@ -1,0 +1,4 @@
+mod Nodes
+pub mod Records
+mod Refusals
+mod Rows
