@@ -47,16 +47,16 @@ impl Master {
         }
     }
 
-    fn whole(self, row: Row, answer: Answer) -> Reply
+    fn whole(mut self, row: Row, answer: Answer) -> Reply
         ensures { λ r. ⌜ r ≡ wholeStep row answer self ⌝ }
     {
         if row.is_counted() {
             let old = self.counts;
             let lost = lost_after(count_of(old, row.reqid), answer.count);
             let counts = with_count(old, row.reqid, answer.count);
-            let stored = Master { counts, ..self };
+            self.counts = counts;
             Reply {
-                master: stored.judged(row.publisher, answer.permission, answer.wake),
+                master: self.judged(row.publisher, answer.permission, answer.wake),
                 command: Command::Nothing,
                 refusal: 0,
                 node: 0,

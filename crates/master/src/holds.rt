@@ -66,29 +66,29 @@ pub(crate) fn first_not_held(holds: [Hold; 16], nodecount: u8) -> u8
 }
 
 impl Master {
-    pub(crate) fn let_go(self, node: u8) -> Master
+    pub(crate) fn let_go(mut self, node: u8) -> Master
         ensures { λ r. ⌜ r ≡ letGo node self ⌝ }
     {
         let old = self.holds;
         let holds = with_hold(old, node, Master::NO_HOLD);
-        Master { holds, ..self }
+        self.holds = holds;
+        self
     }
 
-    pub(crate) fn let_all_go(self) -> Master
+    pub(crate) fn let_all_go(mut self) -> Master
         ensures { λ r. ⌜ r ≡ letAllGo self ⌝ }
     {
-        Master {
-            holds: [Master::NO_HOLD; 16],
-            ..self
-        }
+        self.holds = [Master::NO_HOLD; 16];
+        self
     }
 
-    pub(crate) fn hold(self, node: u8) -> Master
+    pub(crate) fn hold(mut self, node: u8) -> Master
         ensures { λ r. ⌜ r ≡ hold node self ⌝ }
     {
         let old = self.holds;
         let given = Hold { held: true, age: 0 };
         let holds = with_hold(old, node, given);
-        Master { holds, ..self }
+        self.holds = holds;
+        self
     }
 }

@@ -13,16 +13,14 @@ use plan::Times;
 
 impl Master {
     // The tick number wraps on purpose; ages are counted apart from it.
-    fn aged(self, window: u16) -> Master
+    fn aged(mut self, window: u16) -> Master
         ensures { λ r. ⌜ r ≡ aged window self ⌝ }
     {
         let young = self.holds;
         let older = holds::all_older(window, young);
-        Master {
-            holds: older,
-            ticks: std::num::wrapping_add_u32(self.ticks, 1),
-            ..self
-        }
+        self.holds = older;
+        self.ticks = std::num::wrapping_add_u32(self.ticks, 1);
+        self
     }
 
     fn to_normal(self) -> Master
@@ -49,29 +47,25 @@ impl Master {
         }
     }
 
-    fn standby_tick(self, start: u16) -> Reply
+    fn standby_tick(mut self, start: u16) -> Reply
         ensures { λ r. ⌜ r ≡ standbyTick start self ⌝ }
     {
         let delay = self.delay;
         if (delay as u32) + 1 < (start as u32) {
-            silent(Master {
-                delay: delay + 1,
-                ..self
-            })
+            self.delay = delay + 1;
+            silent(self)
         } else {
             commands(self.to_normal(), Command::ClockOn)
         }
     }
 
-    fn closing_tick(self, stop: u16) -> Reply
+    fn closing_tick(mut self, stop: u16) -> Reply
         ensures { λ r. ⌜ r ≡ closingTick stop self ⌝ }
     {
         let delay = self.delay;
         if (delay as u32) + 1 < (stop as u32) {
-            silent(Master {
-                delay: delay + 1,
-                ..self
-            })
+            self.delay = delay + 1;
+            silent(self)
         } else {
             commands(self.to_sleep(), Command::ClockOff)
         }

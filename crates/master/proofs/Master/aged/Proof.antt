@@ -11,8 +11,8 @@ wrapping-add-u32-requires c κs = search needs
 returns : tie.Need-returns
 returns c =
     rw (
-      c .before .wrapping-add-u32 .ensures,
-      c .before .before .all-older .ensures,
+      c .wrapping-add-u32 .ensures,
+      c .before .all-older .ensures,
     )
 
 pub aged-spec : {M : Type 1} → statement M

@@ -24,11 +24,11 @@ returns : tie.Need-returns
 returns c =
     rw (
       c .judged .ensures,
-      c .before .before .with-count .ensures,
-      c .before .before .before .lost-after .ensures,
-      c .before .before .before .before .count-of .ensures,
-      ← c .before .before .before .before .before .before .before .is-counted .ensures,
-      c .before .before .before .before .before .before .if1 .taken,
+      c .before .with-count .ensures,
+      c .before .before .lost-after .ensures,
+      c .before .before .before .count-of .ensures,
+      ← c .before .before .before .before .before .before .is-counted .ensures,
+      c .before .before .before .before .before .if1 .taken,
     )
 
 returns-2 : tie.Need-returns-2
