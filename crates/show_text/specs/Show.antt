@@ -53,18 +53,22 @@ unfoldable pub planText : Plan → List ℕ
 planText p =
     ascii "revision " ++ decimal (p .revision) ++ ascii "\n" ++ timesText (p .times) ++ nodesText (p .nodes) (p .nodecount) ++ rowsText (p .rows) (p .rowcount)
 
--- the refusal table's words for 1 to 9
+-- the refusal table's words for 1 to 9: of a set's content from 5 on
+unfoldable pub contentRuleText : ℕ → List ℕ
+contentRuleText number =
+    pick (eqb number 5) (ascii "a time breaks its rule")
+    (pick (eqb number 6) (ascii "the number of nodes or a node entry breaks its rule")
+    (pick (eqb number 7) (ascii "a row count or a row breaks its rule")
+    (pick (eqb number 8) (ascii "a node publishes nothing")
+    (ascii "filler is not zero"))))
+
 unfoldable pub ruleText : ℕ → List ℕ
 ruleText number =
     pick (eqb number 1) (ascii "the length is not 1,024 or 1,536 bytes")
     (pick (eqb number 2) (ascii "a block's check differs")
     (pick (eqb number 3) (ascii "byte 0 or 1 of a block is wrong")
     (pick (eqb number 4) (ascii "the revision is 0, or blocks differ in it")
-    (pick (eqb number 5) (ascii "a time breaks its rule")
-    (pick (eqb number 6) (ascii "the number of nodes or a node entry breaks its rule")
-    (pick (eqb number 7) (ascii "a row count or a row breaks its rule")
-    (pick (eqb number 8) (ascii "a node publishes nothing")
-    (ascii "filler is not zero"))))))))
+    (contentRuleText number))))
 
 unfoldable pub refusalText : ℕ → List ℕ
 refusalText number = ascii "set " ++ decimal number ++ ascii "\n" ++ ruleText number ++ ascii "\n"

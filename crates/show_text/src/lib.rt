@@ -2,7 +2,7 @@
 ghost use Prim.Native.Nat.{_≤_};
 ghost use Rattle.text.specs.Text.{Appended, Shown, Counts};
 ghost use Rattle.reader.specs.Read.{readSet};
-ghost use Rattle.show_text.specs.Show.{timeLine, timesText, methodText, nodeLine, nodesText, publisherText, countText, rowLine, rowsText, planText, ruleText, refusalText, answerText};
+ghost use Rattle.show_text.specs.Show.{timeLine, timesText, methodText, nodeLine, nodesText, publisherText, countText, rowLine, rowsText, planText, contentRuleText, ruleText, refusalText, answerText};
 use plan::NodeEntry;
 use plan::Plan;
 use plan::Row;
@@ -136,21 +136,9 @@ fn append_plan(buffer: &mut [u8], at: usize, p: Plan) -> usize
     append_rows(buffer, e, rows, p.rowcount as usize)
 }
 
-fn append_rule(buffer: &mut [u8], at: usize, number: u8) -> usize
-    ensures { λ r. ⌜ Appended at (ruleText number) (now (buffer .entry)) (now (buffer .exit)) r ⌝ }
+fn append_content_rule(buffer: &mut [u8], at: usize, number: u8) -> usize
+    ensures { λ r. ⌜ Appended at (contentRuleText number) (now (buffer .entry)) (now (buffer .exit)) r ⌝ }
 {
-    if number == 1 {
-        return append(buffer, at, b"the length is not 1,024 or 1,536 bytes");
-    }
-    if number == 2 {
-        return append(buffer, at, b"a block's check differs");
-    }
-    if number == 3 {
-        return append(buffer, at, b"byte 0 or 1 of a block is wrong");
-    }
-    if number == 4 {
-        return append(buffer, at, b"the revision is 0, or blocks differ in it");
-    }
     if number == 5 {
         return append(buffer, at, b"a time breaks its rule");
     }
@@ -168,6 +156,24 @@ fn append_rule(buffer: &mut [u8], at: usize, number: u8) -> usize
         return append(buffer, at, b"a node publishes nothing");
     }
     append(buffer, at, b"filler is not zero")
+}
+
+fn append_rule(buffer: &mut [u8], at: usize, number: u8) -> usize
+    ensures { λ r. ⌜ Appended at (ruleText number) (now (buffer .entry)) (now (buffer .exit)) r ⌝ }
+{
+    if number == 1 {
+        return append(buffer, at, b"the length is not 1,024 or 1,536 bytes");
+    }
+    if number == 2 {
+        return append(buffer, at, b"a block's check differs");
+    }
+    if number == 3 {
+        return append(buffer, at, b"byte 0 or 1 of a block is wrong");
+    }
+    if number == 4 {
+        return append(buffer, at, b"the revision is 0, or blocks differ in it");
+    }
+    append_content_rule(buffer, at, number)
 }
 
 fn append_refusal(buffer: &mut [u8], at: usize, number: u8) -> usize

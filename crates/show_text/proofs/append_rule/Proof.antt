@@ -58,108 +58,16 @@ returns-4 : tie.Need-returns-4
 unfolding ruleText
 returns-4 c = appended-as (rw (ne-eqb _ _ (c .before .before .before .before .before .before .before .before .if1 .left), ne-eqb _ _ (c .before .before .before .before .before .before .before .if2 .left), ne-eqb _ _ (c .before .before .before .before .before .before .if3 .left), eq-eqb _ _ (c .before .before .before .before .before .if4 .taken))) (c .before .before .append4 .ensures)
 
-slice-aggregate-append-5 : tie.Need-slice-aggregate-append-5
-slice-aggregate-append-5 c = search needs
-
-append-requires-5 : tie.Need-append-requires-5
-append-requires-5 c κs = search needs
+append-content-rule-requires : tie.Need-append-content-rule-requires
+append-content-rule-requires c κs = search needs
 
 same-length-5 : tie.Need-same-length-5
 same-length-5 c = search needs
 
 returns-5 : tie.Need-returns-5
 unfolding ruleText
-returns-5 c = appended-as (rw (ne-eqb _ _ (c .before .before .before .before .before .before .before .before .before .if1 .left), ne-eqb _ _ (c .before .before .before .before .before .before .before .before .if2 .left), ne-eqb _ _ (c .before .before .before .before .before .before .before .if3 .left), ne-eqb _ _ (c .before .before .before .before .before .before .if4 .left), eq-eqb _ _ (c .before .before .before .before .before .if5 .taken))) (c .before .before .append5 .ensures)
-
-slice-aggregate-append-6 : tie.Need-slice-aggregate-append-6
-slice-aggregate-append-6 c = search needs
-
-append-requires-6 : tie.Need-append-requires-6
-append-requires-6 c κs = search needs
-
-same-length-6 : tie.Need-same-length-6
-same-length-6 c = search needs
-
-returns-6 : tie.Need-returns-6
-unfolding ruleText
-returns-6 c = appended-as (rw (ne-eqb _ _ (c .before .before .before .before .before .before .before .before .before .before .if1 .left), ne-eqb _ _ (c .before .before .before .before .before .before .before .before .before .if2 .left), ne-eqb _ _ (c .before .before .before .before .before .before .before .before .if3 .left), ne-eqb _ _ (c .before .before .before .before .before .before .before .if4 .left), ne-eqb _ _ (c .before .before .before .before .before .before .if5 .left), eq-eqb _ _ (c .before .before .before .before .before .if6 .taken))) (c .before .before .append6 .ensures)
-
-slice-aggregate-append-7 : tie.Need-slice-aggregate-append-7
-slice-aggregate-append-7 c = search needs
-
-append-requires-7 : tie.Need-append-requires-7
-append-requires-7 c κs = search needs
-
-same-length-7 : tie.Need-same-length-7
-same-length-7 c = search needs
-
-returns-7 : tie.Need-returns-7
-unfolding ruleText
-returns-7 c = appended-as (rw (ne-eqb _ _ (c .before .before .before .before .before .before .before .before .before .before .before .if1 .left), ne-eqb _ _ (c .before .before .before .before .before .before .before .before .before .before .if2 .left), ne-eqb _ _ (c .before .before .before .before .before .before .before .before .before .if3 .left), ne-eqb _ _ (c .before .before .before .before .before .before .before .before .if4 .left), ne-eqb _ _ (c .before .before .before .before .before .before .before .if5 .left), ne-eqb _ _ (c .before .before .before .before .before .before .if6 .left), eq-eqb _ _ (c .before .before .before .before .before .if7 .taken))) (c .before .before .append7 .ensures)
-
-slice-aggregate-append-8 : tie.Need-slice-aggregate-append-8
-slice-aggregate-append-8 c = search needs
-
-append-requires-8 : tie.Need-append-requires-8
-append-requires-8 c κs = search needs
-
-same-length-8 : tie.Need-same-length-8
-same-length-8 c = search needs
-
-returns-8 : tie.Need-returns-8
-unfolding ruleText
-returns-8 c = appended-as (rw (ne-eqb _ _ (c .before .before .before .before .before .before .before .before .before .before .before .before .if1 .left), ne-eqb _ _ (c .before .before .before .before .before .before .before .before .before .before .before .if2 .left), ne-eqb _ _ (c .before .before .before .before .before .before .before .before .before .before .if3 .left), ne-eqb _ _ (c .before .before .before .before .before .before .before .before .before .if4 .left), ne-eqb _ _ (c .before .before .before .before .before .before .before .before .if5 .left), ne-eqb _ _ (c .before .before .before .before .before .before .before .if6 .left), ne-eqb _ _ (c .before .before .before .before .before .before .if7 .left), eq-eqb _ _ (c .before .before .before .before .before .if8 .taken))) (c .before .before .append8 .ensures)
-
-slice-aggregate-append-9 : tie.Need-slice-aggregate-append-9
-slice-aggregate-append-9 c = search needs
-
-append-requires-9 : tie.Need-append-requires-9
-append-requires-9 c κs = search needs
-
-same-length-9 : tie.Need-same-length-9
-same-length-9 c = search needs
-
-returns-9 : tie.Need-returns-9
-unfolding ruleText
-returns-9 c = appended-as (rw (ne-eqb _ _ (c .before .before .before .before .before .before .before .before .before .before .before .before .if1 .left), ne-eqb _ _ (c .before .before .before .before .before .before .before .before .before .before .before .if2 .left), ne-eqb _ _ (c .before .before .before .before .before .before .before .before .before .before .if3 .left), ne-eqb _ _ (c .before .before .before .before .before .before .before .before .before .if4 .left), ne-eqb _ _ (c .before .before .before .before .before .before .before .before .if5 .left), ne-eqb _ _ (c .before .before .before .before .before .before .before .if6 .left), ne-eqb _ _ (c .before .before .before .before .before .before .if7 .left), ne-eqb _ _ (c .before .before .before .before .before .if8 .left))) (c .before .before .append9 .ensures)
+returns-5 c = appended-as (rw (ne-eqb _ _ (c .before .before .before .before .before .before .before .if1 .left), ne-eqb _ _ (c .before .before .before .before .before .before .if2 .left), ne-eqb _ _ (c .before .before .before .before .before .if3 .left), ne-eqb _ _ (c .before .before .before .before .if4 .left))) (c .before .before .append-content-rule .ensures)
 
 pub append-rule-spec : {M : Type 1} → statement M
 append-rule-spec =
-    tie.close
-    (tie.spec
-    slice-aggregate-append
-    append-requires
-    same-length
-    returns
-    slice-aggregate-append-2
-    append-requires-2
-    same-length-2
-    returns-2
-    slice-aggregate-append-3
-    append-requires-3
-    same-length-3
-    returns-3
-    slice-aggregate-append-4
-    append-requires-4
-    same-length-4
-    returns-4
-    slice-aggregate-append-5
-    append-requires-5
-    same-length-5
-    returns-5
-    slice-aggregate-append-6
-    append-requires-6
-    same-length-6
-    returns-6
-    slice-aggregate-append-7
-    append-requires-7
-    same-length-7
-    returns-7
-    slice-aggregate-append-8
-    append-requires-8
-    same-length-8
-    returns-8
-    slice-aggregate-append-9
-    append-requires-9
-    same-length-9
-    returns-9)
+    tie.close (tie.spec slice-aggregate-append append-requires same-length returns slice-aggregate-append-2 append-requires-2 same-length-2 returns-2 slice-aggregate-append-3 append-requires-3 same-length-3 returns-3 slice-aggregate-append-4 append-requires-4 same-length-4 returns-4 append-content-rule-requires same-length-5 returns-5)
