@@ -1,13 +1,9 @@
 /* Times the exports against the independent implementation on the same inputs in one run, and measures the stack that each uses.
  *
  * The inputs are the largest there are: 16 nodes, 127 rows, a set of 1,536 bytes. The baseline stands in translation units of its own,
- * compiled with gcc -O2, and is called through pointers as the exports are.
+ * and is called through pointers as the exports are. bench.sh compiles it by two compilers, and bench.py runs both programs by turns.
  *
- * Compile, product:   gcc -std=c11 -O2 -Wall -Wextra -Werror -pedantic -Iinclude -Itests/independent tests/c/bench.c
- *                     tests/independent/big_plan.c tests/independent/reference_packed.c tests/independent/reference.c libcxpi.a
- *                     -o bench
- * Compile, reference: the same with -DCXPI_REFERENCE and without libcxpi.a
- * Run:                ./bench */
+ * A line for each call: its name, nanoseconds of the export and of C, bytes of stack of the export and of C, parted by tabs. */
 #define _XOPEN_SOURCE 700
 #include <stdio.h>
 #include <stdlib.h>
@@ -166,7 +162,7 @@ static const workload workloads[] = {
     {"cxpi_node_step, tick", run_node_tick, 1270},
 };
 
-enum { WORKLOADS = sizeof workloads / sizeof workloads[0], ROUNDS = 300 };
+enum { WORKLOADS = sizeof workloads / sizeof workloads[0], ROUNDS = 100 };
 
 static uint64_t refused; /* calls that were; must stay 0 */
 
@@ -252,10 +248,9 @@ int main(void) {
             }
         }
     }
-    printf("%-26s %10s %10s %7s %12s %12s\n", "", "export ns", "C ns", "ratio", "stack bytes", "C stack");
     for (size_t place = 0; place < WORKLOADS; place++) {
-        printf("%-26s %10.1f %10.1f %7.2f %12zu %12zu\n", workloads[place].name, best[place][0], best[place][1],
-               best[place][0] / best[place][1], peak_stack(&workloads[place], &product), peak_stack(&workloads[place], &baseline));
+        printf("%s\t%.1f\t%.1f\t%zu\t%zu\n", workloads[place].name, best[place][0], best[place][1],
+               peak_stack(&workloads[place], &product), peak_stack(&workloads[place], &baseline));
     }
     if (refused != 0) {
         printf("%llu calls were refused\n", (unsigned long long)refused);

@@ -1,19 +1,36 @@
 #!/bin/sh
-# The exports against hand-written C of the same rules, and the drill against an independent one: same inputs, one run.
+# The exports against hand-written C of the same rules by gcc -O2 and, where clang is present, by clang -O3; and the drill against an
+# independent one. Same inputs, best of nine runs.
 set -eu
 cd "$(dirname "$0")/../.."
 out=target/c
 independent=tests/independent
-flags="-std=c11 -O2 -Wall -Wextra -Werror -pedantic"
+flags="-std=c11 -Wall -Wextra -Werror -pedantic -Iinclude -I$independent"
 mkdir -p $out
-rt staticlib cxpi > /dev/null 2>&1
-rt check drill > /dev/null 2>&1
-gcc $flags -Iinclude -I$independent tests/c/bench.c $independent/big_plan.c $independent/reference_packed.c $independent/reference.c \
-    target/staticlib/libcxpi.a -o $out/bench
-$out/bench
+rt staticlib cxpi > $out/log 2>&1 || { cat $out/log; exit 1; }
+rt check drill > $out/log 2>&1 || { cat $out/log; exit 1; }
 
-gcc $flags $independent/make_set.c $independent/big_plan.c $independent/reference.c -o $out/make_set
-gcc $flags $independent/drill.c $independent/reference.c -o $out/reference_drill
+# The benchmark's program over C by a compiler: bench_by COMPILER OPTIMISATION.
+bench_by() {
+    for part in big_plan reference_packed reference; do
+        $1 $flags $2 -c $independent/$part.c -o $out/$1_$part.o
+    done
+    gcc $flags -O2 tests/c/bench.c $out/$1_big_plan.o $out/$1_reference_packed.o $out/$1_reference.o target/staticlib/libcxpi.a \
+        -o $out/bench_$1
+}
+
+bench_by gcc -O2
+set -- $out/bench_gcc "gcc $(gcc -dumpversion) -O2"
+if command -v clang > /dev/null; then
+    bench_by clang -O3
+    set -- "$@" $out/bench_clang "clang $(clang -dumpversion) -O3"
+else
+    echo "no clang here: C by gcc alone"
+fi
+python3 tests/c/bench.py "$@"
+
+gcc $flags -O2 $independent/make_set.c $independent/big_plan.c $independent/reference.c -o $out/make_set
+gcc $flags -O2 $independent/drill.c $independent/reference.c -o $out/reference_drill
 $out/make_set > $out/plan.set
 python3 $independent/make_drill.py $out/plan.set 1000000 1 > $out/moves
 python3 $independent/time_drills.py $out ../bin/drill ./reference_drill

@@ -1,46 +1,38 @@
 -- The replies to steps, by what is read of the plan's bytes.
 use Prim.Native.Nat.{ℕ, _≤_, _<_}
-use mathlib.Core.Path.{_≡_, refl, ap, sym, _∙_}
+use mathlib.Core.Path.{_≡_, refl}
 use mathlib.Core.List.{List}
 use lib.ListN.{length}
 use borrow.Author.Tests.{eq-eqb, ne-eqb, le-ltb, lt-ltb}
 use Rattle.plan.specs.Rules.{planRefusal}
-use Rattle.plan.specs.Answers.{isPolled}
-use Rattle.packed.specs.Packed.{planIn}
-use Rattle.packed.proofs.Records.{record-in}
+use Rattle.reader.specs.Record.{recordOf}
 use Rattle.master.specs.Changes as MasterChanges
 use Rattle.master.specs.Step as MasterStep
-use Rattle.master.proofs.StepWith as MasterWith
 use Rattle.master_bytes.specs.States.{masterOf}
 use Rattle.master_bytes.specs.Events as MasterEvents
 use Rattle.node.specs.Changes as NodeChanges
 use Rattle.node.specs.Step as NodeStep
-use Rattle.node.proofs.StepWith as NodeWith
 use Rattle.node_bytes.specs.States.{nodeOf}
 use Rattle.node_bytes.specs.Events as NodeEvents
 use Rattle.cxpi.specs.MasterCalls.{masterReply}
 use Rattle.cxpi.specs.NodeCalls.{nodeReply}
 
 module _ (plan state event : List ℕ) (room : ℕ) (size : length plan ≡ 591) where
-  pub master-refused : (planRefusal (planIn plan) ≡ 0 → ⊥) → MasterChanges.refuse MasterChanges.powerOn (planRefusal (planIn plan)) ≡ masterReply plan state event room
-  master-refused n = rw (eq-eqb (length plan) 591 size, record-in plan size, ne-eqb (planRefusal (planIn plan)) 0 n, ne-eqb (planRefusal (planIn plan)) 0 n)
+  pub master-refused : (planRefusal (recordOf plan) ≡ 0 → ⊥) → MasterChanges.refuse MasterChanges.powerOn (planRefusal (recordOf plan)) ≡ masterReply plan state event room
+  master-refused n = rw (eq-eqb (length plan) 591 size, ne-eqb (planRefusal (recordOf plan)) 0 n, ne-eqb (planRefusal (recordOf plan)) 0 n)
 
-  pub node-refused : (me : ℕ) → (planRefusal (planIn plan) ≡ 0 → ⊥) → NodeChanges.refuse NodeChanges.powerOn (planRefusal (planIn plan)) ≡ nodeReply plan me state event room
-  node-refused me n = rw (eq-eqb (length plan) 591 size, record-in plan size, ne-eqb (planRefusal (planIn plan)) 0 n, ne-eqb (planRefusal (planIn plan)) 0 n)
+  pub node-refused : (me : ℕ) → (planRefusal (recordOf plan) ≡ 0 → ⊥) → NodeChanges.refuse NodeChanges.powerOn (planRefusal (recordOf plan)) ≡ nodeReply plan me state event room
+  node-refused me n = rw (eq-eqb (length plan) 591 size, ne-eqb (planRefusal (recordOf plan)) 0 n, ne-eqb (planRefusal (recordOf plan)) 0 n)
 
-  module _ (kept : planRefusal (planIn plan) ≡ 0) where
+  module _ (kept : planRefusal (recordOf plan) ≡ 0) where
     pub master-short : room < 2 → MasterChanges.refuse MasterChanges.powerOn 10 ≡ masterReply plan state event room
-    master-short h = rw (eq-eqb (length plan) 591 size, record-in plan size, eq-eqb (planRefusal (planIn plan)) 0 kept, lt-ltb room 2 h)
+    master-short h = rw (eq-eqb (length plan) 591 size, eq-eqb (planRefusal (recordOf plan)) 0 kept, lt-ltb room 2 h)
 
-    pub master-done : 2 ≤ room
-        → MasterStep.stepWith (planIn plan .nodecount) (planIn plan .times) (MasterStep.rowAsked (planIn plan) (MasterEvents.eventOf event)) (masterOf state) (MasterEvents.eventOf event)
-        ≡ masterReply plan state event room
-    master-done h = rw (eq-eqb (length plan) 591 size, record-in plan size, eq-eqb (planRefusal (planIn plan)) 0 kept, le-ltb room 2 h) (MasterWith.step-with (planIn plan) (masterOf state) (MasterEvents.eventOf event))
+    pub master-done : 2 ≤ room → MasterStep.stepUnder (recordOf plan) (masterOf state) (MasterEvents.eventOf event) ≡ masterReply plan state event room
+    master-done h = rw (eq-eqb (length plan) 591 size, eq-eqb (planRefusal (recordOf plan)) 0 kept, le-ltb room 2 h)
 
     pub node-short : (me : ℕ) → room < 4 → NodeChanges.refuse NodeChanges.powerOn 10 ≡ nodeReply plan me state event room
-    node-short me h = rw (eq-eqb (length plan) 591 size, record-in plan size, eq-eqb (planRefusal (planIn plan)) 0 kept, lt-ltb room 4 h)
+    node-short me h = rw (eq-eqb (length plan) 591 size, eq-eqb (planRefusal (recordOf plan)) 0 kept, lt-ltb room 4 h)
 
-    pub node-done : (me : ℕ) → 4 ≤ room
-        → NodeStep.stepWith (planIn plan .nodecount) (planIn plan .times) me (isPolled (planIn plan) me) (NodeStep.rowAsked (planIn plan) (NodeEvents.eventOf event)) (nodeOf state) (NodeEvents.eventOf event)
-        ≡ nodeReply plan me state event room
-    node-done me h = rw (eq-eqb (length plan) 591 size, record-in plan size, eq-eqb (planRefusal (planIn plan)) 0 kept, le-ltb room 4 h) (NodeWith.step-with (planIn plan) me (nodeOf state) (NodeEvents.eventOf event))
+    pub node-done : (me : ℕ) → 4 ≤ room → NodeStep.stepUnder (recordOf plan) me (nodeOf state) (NodeEvents.eventOf event) ≡ nodeReply plan me state event room
+    node-done me h = rw (eq-eqb (length plan) 591 size, eq-eqb (planRefusal (recordOf plan)) 0 kept, le-ltb room 4 h)

@@ -2,7 +2,7 @@
 ghost use mathlib.Core.Path.{_≡_};
 ghost use Prim.Native.Nat.{_+_, _*_};
 ghost use lib.ListN.{length};
-ghost use Rattle.packed.specs.Packed.{planIn};
+ghost use Rattle.reader.specs.Record.{recordOf};
 ghost use Rattle.master.specs.Step.{rowAsked};
 ghost use Rattle.master.specs.Changes.{powerOn, refuse};
 ghost use Rattle.cxpi.specs.MasterCalls.{masterRoom, masterOn, masterReply, masterNumber, changesState, masterLeaves, masterAnswers};
@@ -43,14 +43,13 @@ fn refused(refusal: u8) -> Reply
     }
 }
 
-// The row that an event asks the packed plan for.
+// The row that an event asks the plan for.
 fn row_for(plan: &[u8], event: Event) -> Lookup
-    requires { ⌜ length (now plan) ≡ 591 ⌝ }
-    ensures { λ r. ⌜ r ≡ rowAsked (planIn (now (plan .entry))) event ⌝ }
+    ensures { λ r. ⌜ r ≡ rowAsked (recordOf (now (plan .entry))) event ⌝ }
 {
     match event {
         Event::Tick => Lookup::Missing,
-        Event::Answer(answer) => packed::row_of(plan, answer.reqid),
+        Event::Answer(answer) => plan_bytes::row_of(plan, answer.reqid),
         Event::Pulse => Lookup::Missing,
         Event::WakeAsk => Lookup::Missing,
         Event::Permission(_) => Lookup::Missing,
@@ -66,15 +65,15 @@ fn reply_to(plan: &[u8], state: &[u8], event: &[u8], room: usize) -> Reply
     if plan.len() != Plan::LENGTH {
         return refused(1);
     }
-    let refusal = packed::refusal_of(plan);
+    let refusal = plan_bytes::refusal_of(plan);
     if refusal == 0 {
         if room < master_bytes::ANSWER_LENGTH {
             return refused(10);
         }
         let happened = event_of(event);
         let row = row_for(plan, happened);
-        let times = packed::times_of(plan);
-        return master_of(state).step_with(packed::node_count(plan), times, row, happened);
+        let times = plan_bytes::times_of(plan);
+        return master_of(state).step_with(plan_bytes::node_count(plan), times, row, happened);
     }
     refused(refusal)
 }

@@ -1,7 +1,7 @@
 // Calls on a node.
 ghost use mathlib.Core.Path.{_≡_};
 ghost use lib.ListN.{length};
-ghost use Rattle.packed.specs.Packed.{planIn};
+ghost use Rattle.reader.specs.Record.{recordOf};
 ghost use Rattle.node.specs.Step.{rowAsked};
 ghost use Rattle.node.specs.Changes.{powerOn, refuse};
 ghost use Rattle.cxpi.specs.NodeCalls.{nodeRoom, nodeOn, nodeReply, nodeLeaves, nodeAnswers};
@@ -14,6 +14,7 @@ use node_bytes::command_bytes;
 use node_bytes::event_of;
 use node_bytes::node_of;
 use node_bytes::put_node;
+use node_bytes::put_power_on;
 use plan::Lookup;
 use plan::Plan;
 
@@ -24,8 +25,7 @@ pub extern "C" fn cxpi_node_power_on(state: &mut [u8]) -> u32
     if state.len() < node_bytes::LENGTH {
         return 10;
     }
-    let node = Node::power_on();
-    put_node(state, node);
+    put_power_on(state);
     0
 }
 
@@ -40,10 +40,9 @@ fn refused(refusal: u8) -> Reply
     }
 }
 
-// The row that an event asks the packed plan for.
+// The row that an event asks the plan for.
 fn row_for(plan: &[u8], event: Event) -> Lookup
-    requires { ⌜ length (now plan) ≡ 591 ⌝ }
-    ensures { λ r. ⌜ r ≡ rowAsked (planIn (now (plan .entry))) event ⌝ }
+    ensures { λ r. ⌜ r ≡ rowAsked (recordOf (now (plan .entry))) event ⌝ }
 {
     match event {
         Event::Tick(_) => Lookup::Missing,
@@ -51,8 +50,8 @@ fn row_for(plan: &[u8], event: Event) -> Lookup
         Event::WakeAsk => Lookup::Missing,
         Event::Permission(_) => Lookup::Missing,
         Event::SleepMessage => Lookup::Missing,
-        Event::Request(reqid) => packed::row_of(plan, reqid),
-        Event::SendAsk(reqid) => packed::row_of(plan, reqid),
+        Event::Request(reqid) => plan_bytes::row_of(plan, reqid),
+        Event::SendAsk(reqid) => plan_bytes::row_of(plan, reqid),
     }
 }
 
@@ -63,16 +62,23 @@ fn reply_to(plan: &[u8], me: u8, state: &[u8], event: &[u8], room: usize) -> Rep
     if plan.len() != Plan::LENGTH {
         return refused(1);
     }
-    let refusal = packed::refusal_of(plan);
+    let refusal = plan_bytes::refusal_of(plan);
     if refusal == 0 {
         if room < node_bytes::ANSWER_LENGTH {
             return refused(10);
         }
         let happened = event_of(event);
         let row = row_for(plan, happened);
-        let times = packed::times_of(plan);
-        let polled = packed::is_polled(plan, me);
-        return node_of(state).step_with(packed::node_count(plan), times, me, polled, row, happened);
+        let times = plan_bytes::times_of(plan);
+        let polled = plan_bytes::is_polled(plan, me);
+        return node_of(state).step_with(
+            plan_bytes::node_count(plan),
+            times,
+            me,
+            polled,
+            row,
+            happened,
+        );
     }
     refused(refusal)
 }

@@ -2,4 +2,3 @@ pub mod Clock
 pub mod InRange
 pub mod InRun
 pub mod Refusals
-pub mod StepWith

@@ -28,28 +28,7 @@ eventRight (Event.Permission permitted) = true
 eventRight Event.SleepAsk = true
 eventRight (Event.SendResult sent) = true
 
--- what each event does, 16 and the later numbers included
-abbrev pub act : Plan → Master → Event → Reply
-act p m Event.Tick = tickStep (p .times) m
-act p m (Event.Answer a) = answerStep (findRow p (a .reqid)) a m
-act p m Event.Pulse = wakeUpStep m
-act p m Event.WakeAsk = wakeUpStep m
-act p m (Event.Permission permitted) = permissionStep permitted m
-act p m Event.SleepAsk = sleepAskStep (p .nodecount) m
-act p m (Event.SendResult sent) = sendResultStep sent m
-
--- "then 11, 15, 16, then the rest by number", where the plan is judged
-abbrev pub stepUnder : Plan → Master → Event → Reply
-stepUnder p m e =
-    pick (inRange (p .nodecount) (p .times) m)
-    (pick (eventRight e) (act p m e) (refuse m 15))
-    (refuse m 11)
-
--- "plan 4 to 8 first"
-abbrev pub masterStep : Plan → Master → Event → Reply
-masterStep p m e = pick (eqb (planRefusal p) 0) (stepUnder p m e) (refuse m (planRefusal p))
-
--- the same of what a step needs of a plan alone: the number of nodes, the times, and the row that the event asks for
+-- the row that an event asks a plan for
 abbrev pub rowAsked : Plan → Event → Lookup
 rowAsked p Event.Tick = Lookup.Missing
 rowAsked p (Event.Answer a) = findRow p (a .reqid)
@@ -59,14 +38,30 @@ rowAsked p (Event.Permission permitted) = Lookup.Missing
 rowAsked p Event.SleepAsk = Lookup.Missing
 rowAsked p (Event.SendResult sent) = Lookup.Missing
 
+-- what each event does, 16 and the later numbers included, by what it needs of a plan: the number of nodes, the times and the row asked for
 abbrev pub actWith : ℕ → Times → Lookup → Master → Event → Reply
-actWith n t row m Event.Tick = tickStep t m
-actWith n t row m (Event.Answer a) = answerStep row a m
-actWith n t row m Event.Pulse = wakeUpStep m
-actWith n t row m Event.WakeAsk = wakeUpStep m
-actWith n t row m (Event.Permission permitted) = permissionStep permitted m
-actWith n t row m Event.SleepAsk = sleepAskStep n m
-actWith n t row m (Event.SendResult sent) = sendResultStep sent m
+actWith nodecount t row m Event.Tick = tickStep t m
+actWith nodecount t row m (Event.Answer a) = answerStep row a m
+actWith nodecount t row m Event.Pulse = wakeUpStep m
+actWith nodecount t row m Event.WakeAsk = wakeUpStep m
+actWith nodecount t row m (Event.Permission permitted) = permissionStep permitted m
+actWith nodecount t row m Event.SleepAsk = sleepAskStep nodecount m
+actWith nodecount t row m (Event.SendResult sent) = sendResultStep sent m
 
+-- "then 11, 15, 16, then the rest by number", where the plan is judged
 abbrev pub stepWith : ℕ → Times → Lookup → Master → Event → Reply
-stepWith n t row m e = pick (inRange n t m) (pick (eventRight e) (actWith n t row m e) (refuse m 15)) (refuse m 11)
+stepWith nodecount t row m e =
+    pick (inRange nodecount t m)
+    (pick (eventRight e) (actWith nodecount t row m e) (refuse m 15))
+    (refuse m 11)
+
+-- the same under a plan
+abbrev pub act : Plan → Master → Event → Reply
+act p m e = actWith (p .nodecount) (p .times) (rowAsked p e) m e
+
+abbrev pub stepUnder : Plan → Master → Event → Reply
+stepUnder p m e = stepWith (p .nodecount) (p .times) (rowAsked p e) m e
+
+-- "plan 4 to 8 first"
+abbrev pub masterStep : Plan → Master → Event → Reply
+masterStep p m e = pick (eqb (planRefusal p) 0) (stepUnder p m e) (refuse m (planRefusal p))

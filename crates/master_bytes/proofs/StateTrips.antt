@@ -16,7 +16,8 @@ use Rattle.folds.proofs.Tables.{tab-of, getD-tab, length-tab}
 use Rattle.blocks.specs.Bytes.{byte, highByte, lowByte, tableAt}
 use Rattle.blocks.proofs.Halves.{from-halves, high-at, low-at, long-high-at, long-low-at, from-quarters}
 use Rattle.blocks.proofs.Parts.{head-and-table}
-use Rattle.machine.specs.Bytes.{stateOf, flagOf}
+use Rattle.machine.specs.declared.State.{State}
+use Rattle.machine.specs.Bytes.{stateByte, stateOf, flagOf}
 use Rattle.machine.proofs.ByteTrips.{state-back, state-byte-back, state-byte-low, flag-back, flag-byte-back, flag-byte-low}
 use Rattle.master.specs.declared.Phase.{Phase}
 use Rattle.master.specs.declared.Hold.{Hold}
@@ -55,9 +56,10 @@ master-put m buffer head permissions x y z h p e f g =
     g ∙ rw (f, e, h, p, sets-append (masterHead m) (holdsBytes (m .holds)) buffer 0, ← u) (sets-append (masterHead m ++ holdsBytes (m .holds)) (m .counts) buffer 0)
 
 -- power-on: the front and the counts as they are
-pub power-on-put : (buffer front x y : List ℕ) → front ≡ set (replicate 57 0) 0 2 → x ≡ sets buffer 0 front → y ≡ sets x 57 noCounts → y ≡ sets buffer 0 (masterBytes powerOn)
+pub power-on-put : (buffer x y : List ℕ) (state : ℕ) → state ≡ stateByte State.Sleep → x ≡ sets buffer 0 (set (replicate 57 0) 0 state) → y ≡ sets x 57 noCounts
+    → y ≡ sets buffer 0 (masterBytes powerOn)
 unfolding masterBytes holdsBytes tab
-power-on-put buffer front x y h e f = f ∙ rw (e, h) (sets-append (set (replicate 57 0) 0 2) noCounts buffer 0)
+power-on-put buffer x y state h e f = f ∙ rw (e, h) (sets-append (set (replicate 57 0) 0 2) noCounts buffer 0)
 
 module _ (m : Master) (holds-long : length (m .holds) ≡ 16) (counts-long : length (m .counts) ≡ 128) where
   front-byte : (o : ℕ) → o < 57 → byte (masterBytes m) o ≡ getD (masterHead m ++ holdsBytes (m .holds)) o 0

@@ -10,6 +10,7 @@ use blocks::long_number;
 use blocks::number_at;
 use blocks::put;
 use blocks::table_at;
+use machine::State;
 use machine::flag_byte;
 use machine::state_byte;
 use machine::state_of;
@@ -96,7 +97,7 @@ pub fn put_power_on(buffer: &mut [u8])
     ensures { λ _. ⌜ now (buffer .exit) ≡ sets (now (buffer .entry)) 0 (masterBytes powerOn) ⌝ }
 {
     let mut front = [0; 57];
-    front[0] = 2;
+    front[0] = state_byte(State::Sleep);
     let counts = [Master::NO_COUNT; 128];
     put(buffer, 0, &front[..]);
     put(buffer, 57, &counts[..]);

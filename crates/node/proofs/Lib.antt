@@ -6,4 +6,3 @@ pub mod Refusals
 pub mod Settling
 pub mod WithClock
 pub mod WithoutClock
-pub mod StepWith

@@ -28,30 +28,7 @@ eventRight Event.SleepMessage = true
 eventRight (Event.Request reqid) = ltb reqid 128
 eventRight (Event.SendAsk reqid) = ltb reqid 128
 
--- what each event does, 16 and the later numbers included
-abbrev pub act : Plan → ℕ → Node → Event → Reply
-act p me n (Event.Tick clock) = tickStep (p .times) clock n
-act p me n Event.Pulse = pulseStep n
-act p me n Event.WakeAsk = wakeAskStep n
-act p me n (Event.Permission permitted) = permissionStep permitted n
-act p me n Event.SleepMessage = sleepMessageStep n
-act p me n (Event.Request reqid) = requestStep me (findRow p reqid) n
-act p me n (Event.SendAsk reqid) = sendAskStep me (isPolled p me) (findRow p reqid) n
-
--- "then 11, 15, 16, then the rest by number", where the plan is judged; 11 is a "state record or node number out of range"
-abbrev pub stepUnder : Plan → ℕ → Node → Event → Reply
-stepUnder p me n e =
-    pick (ltb me (p .nodecount))
-    (pick (inRange (p .times) n)
-    (pick (eventRight e) (act p me n e) (refuse n 15))
-    (refuse n 11))
-    (refuse n 11)
-
--- "plan 4 to 8 first"
-abbrev pub nodeStep : Plan → ℕ → Node → Event → Reply
-nodeStep p me n e = pick (eqb (planRefusal p) 0) (stepUnder p me n e) (refuse n (planRefusal p))
-
--- the same of what a step needs of a plan alone: the number of nodes, the times, whether the node is polled, and the row that the event asks for
+-- the row that an event asks a plan for
 abbrev pub rowAsked : Plan → Event → Lookup
 rowAsked p (Event.Tick clock) = Lookup.Missing
 rowAsked p Event.Pulse = Lookup.Missing
@@ -61,6 +38,8 @@ rowAsked p Event.SleepMessage = Lookup.Missing
 rowAsked p (Event.Request reqid) = findRow p reqid
 rowAsked p (Event.SendAsk reqid) = findRow p reqid
 
+-- what each event does, 16 and the later numbers included, by what it needs of a plan: the times, whether the node is polled and the row
+-- asked for
 abbrev pub actWith : Times → ℕ → Bool → Lookup → Node → Event → Reply
 actWith t me polled row n (Event.Tick clock) = tickStep t clock n
 actWith t me polled row n Event.Pulse = pulseStep n
@@ -70,6 +49,7 @@ actWith t me polled row n Event.SleepMessage = sleepMessageStep n
 actWith t me polled row n (Event.Request reqid) = requestStep me row n
 actWith t me polled row n (Event.SendAsk reqid) = sendAskStep me polled row n
 
+-- "then 11, 15, 16, then the rest by number", where the plan is judged; 11 is a "state record or node number out of range"
 abbrev pub stepWith : ℕ → Times → ℕ → Bool → Lookup → Node → Event → Reply
 stepWith nodecount t me polled row n e =
     pick (ltb me nodecount)
@@ -77,3 +57,14 @@ stepWith nodecount t me polled row n e =
     (pick (eventRight e) (actWith t me polled row n e) (refuse n 15))
     (refuse n 11))
     (refuse n 11)
+
+-- the same under a plan
+abbrev pub act : Plan → ℕ → Node → Event → Reply
+act p me n e = actWith (p .times) me (isPolled p me) (rowAsked p e) n e
+
+abbrev pub stepUnder : Plan → ℕ → Node → Event → Reply
+stepUnder p me n e = stepWith (p .nodecount) (p .times) me (isPolled p me) (rowAsked p e) n e
+
+-- "plan 4 to 8 first"
+abbrev pub nodeStep : Plan → ℕ → Node → Event → Reply
+nodeStep p me n e = pick (eqb (planRefusal p) 0) (stepUnder p me n e) (refuse n (planRefusal p))

@@ -2,14 +2,16 @@
 use Prim.Native.Nat.{ℕ, _+_, _/_, _%_}
 use mathlib.Core.Path.{_≡_, refl, ap, sym, _∙_}
 use mathlib.Core.List.{List, [], _∷_, _++_}
-use lib.ListN.{length, getD}
+use lib.ListN.{length, getD, set, replicate}
 use lib.Seq.{sets}
 use native.Mathlib.Omega.{arith}
 use Rattle.folds.proofs.Stores.{sets-append}
 use Rattle.blocks.specs.Bytes.{highByte, lowByte, fourBytes}
+use Rattle.machine.specs.declared.State.{State}
 use Rattle.machine.specs.Bytes.{stateByte, flagByte}
 use Rattle.node.specs.declared.Delay.{Delay}
 use Rattle.node.specs.declared.Node.{Node}
+use Rattle.node.specs.Changes.{powerOn}
 use Rattle.node_bytes.specs.States.{delayBytes, nodeHead, nodeBytes}
 
 -- those bytes one by one
@@ -35,3 +37,8 @@ unfolding nodeBytes
 node-put n buffer head x y h e f =
     let z : 0 + length (nodeHead n) ≡ 15 = omega (arith, head-long n) in
     f ∙ rw (e, h, ← z) (sets-append (nodeHead n) (n .counts) buffer 0)
+
+-- power-on: the state's byte, and zeros
+pub power-on-put : (buffer x : List ℕ) (state : ℕ) → state ≡ stateByte State.Sleep → x ≡ sets buffer 0 (set (replicate 143 0) 0 state) → x ≡ sets buffer 0 (nodeBytes powerOn)
+unfolding nodeBytes
+power-on-put buffer x state h e = e ∙ rw h

@@ -7,6 +7,7 @@ pub use answers::command_bytes;
 pub use events::event_of;
 pub use states::node_of;
 pub use states::put_node;
+pub use states::put_power_on;
 
 // The bytes of a state.
 pub const LENGTH: usize = 143;

@@ -1,12 +1,14 @@
 // A node's state as bytes.
 ghost use mathlib.Core.Path.{_≡_};
 ghost use lib.Seq.{sets};
+ghost use Rattle.node.specs.Changes.{powerOn};
 ghost use Rattle.node_bytes.specs.States.{delayBytes, delayOf, nodeHead, nodeBytes, isNode, nodeFrom, noNode, nodeOf};
 use blocks::byte_at;
 use blocks::long_number;
 use blocks::number_at;
 use blocks::put;
 use blocks::table_at;
+use machine::State;
 use machine::flag_byte;
 use machine::state_byte;
 use machine::state_of;
@@ -67,6 +69,15 @@ pub fn put_node(buffer: &mut [u8], node: Node)
     let head = node_head(node);
     put(buffer, 0, &head[..]);
     put(buffer, 15, &counts[..]);
+}
+
+// Puts the state at power-on at the front of a buffer: constants, which the compiler stores without reckoning them from a node.
+pub fn put_power_on(buffer: &mut [u8])
+    ensures { λ _. ⌜ now (buffer .exit) ≡ sets (now (buffer .entry)) 0 (nodeBytes powerOn) ⌝ }
+{
+    let mut bytes = [0; crate::LENGTH];
+    bytes[0] = state_byte(State::Sleep);
+    put(buffer, 0, &bytes[..]);
 }
 
 fn is_node(bytes: &[u8]) -> bool

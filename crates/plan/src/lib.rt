@@ -74,7 +74,36 @@ fn method_of(nodes: [NodeEntry; 16], node: u8) -> u8
     }
 }
 
+// What an unused place of a record holds.
+impl NodeEntry {
+    pub const ZERO: NodeEntry = NodeEntry {
+        address: 0,
+        class: 0,
+        method: 0,
+        reserved: 0,
+    };
+}
+
+impl Times {
+    pub const ZERO: Times = Times {
+        window: 0,
+        stop: 0,
+        sleep: 0,
+        quiet: 0,
+        recovery: 0,
+        space: 0,
+        start: 0,
+    };
+}
+
 impl Row {
+    pub const ZERO: Row = Row {
+        reqid: 0,
+        publisher: 0,
+        length: 0,
+        kind: 0,
+    };
+
     // Whether the row carries a sequence count.
     pub fn is_counted(self) -> bool
         ensures { λ r. ⌜ r ≡ isCounted self ⌝ }
@@ -108,29 +137,9 @@ impl Plan {
     pub fn zero() -> Plan
         ensures { λ r. ⌜ r ≡ zeroPlan ⌝ }
     {
-        let entry = NodeEntry {
-            address: 0,
-            class: 0,
-            method: 0,
-            reserved: 0,
-        };
-        let row = Row {
-            reqid: 0,
-            publisher: 0,
-            length: 0,
-            kind: 0,
-        };
-        let times = Times {
-            window: 0,
-            stop: 0,
-            sleep: 0,
-            quiet: 0,
-            recovery: 0,
-            space: 0,
-            start: 0,
-        };
-        let nodes = [entry; 16];
-        let rows = [row; 127];
+        let times = Times::ZERO;
+        let nodes = [NodeEntry::ZERO; 16];
+        let rows = [Row::ZERO; 127];
         Plan {
             revision: 0,
             nodecount: 0,

@@ -21,12 +21,19 @@ recordEntry s k = entryFrom s (19 + 4 * k)
 abbrev pub recordRow : List ℕ → ℕ → Row
 recordRow s j = rowFrom s (83 + 4 * j)
 
--- 0-1 revision, 2 N, 3-4 number of rows, 5-18 seven times; bytes of another length give the all-zero record
+abbrev pub nodesIn : List ℕ → List NodeEntry
+nodesIn s = tab 16 (recordEntry s)
+
+abbrev pub rowsIn : List ℕ → List Row
+rowsIn s = tab 127 (recordRow s)
+
+-- 0-1 revision, 2 N, 3-4 number of rows, 5-18 seven times
+abbrev pub planIn : List ℕ → Plan
+planIn s = record { revision = number s 0; nodecount = byte s 2; times = timesFrom s 5; nodes = nodesIn s; rowcount = number s 3; rows = rowsIn s }
+
+-- bytes of another length give the all-zero record
 unfoldable pub recordOf : List ℕ → Plan
-recordOf s =
-    pick (eqb (length s) 591)
-    (record { revision = number s 0; nodecount = byte s 2; times = timesFrom s 5; nodes = tab 16 (recordEntry s); rowcount = number s 3; rows = tab 127 (recordRow s) })
-    zeroPlan
+recordOf s = pick (eqb (length s) 591) (planIn s) zeroPlan
 
 -- 1 for another length, then the plan's rules, 4 to 8
 abbrev pub readRecord : List ℕ → ReadAnswer

@@ -43,25 +43,14 @@ fn node_of(s: &[u8], count: usize, k: usize) -> NodeEntry
     if k < count {
         entry_from(s, 32 + 4 * k)
     } else {
-        NodeEntry {
-            address: 0,
-            class: 0,
-            method: 0,
-            reserved: 0,
-        }
+        NodeEntry::ZERO
     }
 }
 
 fn nodes_of(s: &[u8], count: usize) -> [NodeEntry; 16]
     ensures { λ r. ⌜ r ≡ nodesOf (now (s .entry)) count ⌝ }
 {
-    let zero = NodeEntry {
-        address: 0,
-        class: 0,
-        method: 0,
-        reserved: 0,
-    };
-    let mut nodes = [zero; 16];
+    let mut nodes = [NodeEntry::ZERO; 16];
     let mut k: usize = 0;
     while k < 16 {
         nodes[k] = node_of(s, count, k);
@@ -115,25 +104,14 @@ fn row_of(s: &[u8], count: usize, j: usize) -> Row
     if j < count {
         row_from(s, row_place(j))
     } else {
-        Row {
-            reqid: 0,
-            publisher: 0,
-            length: 0,
-            kind: 0,
-        }
+        Row::ZERO
     }
 }
 
 fn rows_of(s: &[u8], count: usize) -> [Row; 127]
     ensures { λ r. ⌜ r ≡ rowsOf (now (s .entry)) count ⌝ }
 {
-    let zero = Row {
-        reqid: 0,
-        publisher: 0,
-        length: 0,
-        kind: 0,
-    };
-    let mut rows = [zero; 127];
+    let mut rows = [Row::ZERO; 127];
     let mut j: usize = 0;
     while j < 127 {
         rows[j] = row_of(s, count, j);

@@ -7,7 +7,6 @@ mod layout;
 mod record;
 mod rules;
 
-pub use record::read_record;
 pub use record::record_of;
 
 pub struct ReadAnswer {

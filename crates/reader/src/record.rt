@@ -2,29 +2,20 @@
 ghost use mathlib.Core.Path.{_≡_};
 ghost use lib.ListN.{length};
 ghost use Rattle.folds.specs.Fold.{tab};
-ghost use Rattle.reader.specs.Record.{recordEntry, recordRow, recordOf, readRecord};
-use crate::ReadAnswer;
+ghost use Rattle.reader.specs.Record.{recordEntry, recordRow, recordOf};
 use crate::layout;
-use crate::refuse;
 use blocks::byte_at;
 use blocks::number_at;
 use plan::NodeEntry;
 use plan::Plan;
 use plan::Row;
-use plan::plan_refusal;
 
 // The length is known, so that each loop is compiled to a copy of its bytes.
 fn record_nodes(bytes: &[u8]) -> [NodeEntry; 16]
     requires { ⌜ length (now bytes) ≡ 591 ⌝ }
     ensures { λ r. ⌜ r ≡ tab 16 (recordEntry (now (bytes .entry))) ⌝ }
 {
-    let zero = NodeEntry {
-        address: 0,
-        class: 0,
-        method: 0,
-        reserved: 0,
-    };
-    let mut nodes = [zero; 16];
+    let mut nodes = [NodeEntry::ZERO; 16];
     let mut k: usize = 0;
     while k < 16 {
         nodes[k] = NodeEntry {
@@ -42,13 +33,7 @@ fn record_rows(bytes: &[u8]) -> [Row; 127]
     requires { ⌜ length (now bytes) ≡ 591 ⌝ }
     ensures { λ r. ⌜ r ≡ tab 127 (recordRow (now (bytes .entry))) ⌝ }
 {
-    let zero = Row {
-        reqid: 0,
-        publisher: 0,
-        length: 0,
-        kind: 0,
-    };
-    let mut rows = [zero; 127];
+    let mut rows = [Row::ZERO; 127];
     let mut j: usize = 0;
     while j < 127 {
         rows[j] = Row {
@@ -80,19 +65,4 @@ pub fn record_of(bytes: &[u8]) -> Plan
         rowcount: number_at(bytes, 3),
         rows,
     }
-}
-
-// The plan of a packed record that keeps the rules, or the number of the first one that it breaks with the all-zero record.
-pub fn read_record(bytes: &[u8]) -> ReadAnswer
-    ensures { λ r. ⌜ r ≡ readRecord (now (bytes .entry)) ⌝ }
-{
-    if bytes.len() != Plan::LENGTH {
-        return refuse(1);
-    }
-    let plan = record_of(bytes);
-    let refusal = plan_refusal(plan);
-    if refusal != 0 {
-        return refuse(refusal);
-    }
-    ReadAnswer { refusal: 0, plan }
 }

@@ -1,9 +1,11 @@
 -- The front, then the counts. Assumes nothing.
-use mathlib.Core.Path.{refl}
 use Rattle.master_bytes.proofs.StateTrips.{power-on-put}
 use borrow.Author.Needs.{needs}
 use Rattle.master_bytes.proofs.states.put_power_on.Statement.{statement}
 use Rattle.master_bytes.proofs.states.put_power_on.Tie as tie
+
+state-byte-requires : tie.Need-state-byte-requires
+state-byte-requires c κs = search needs
 
 array-write-front : tie.Need-array-write-front
 array-write-front c = search needs
@@ -24,12 +26,13 @@ same-length : tie.Need-same-length
 same-length c = search needs
 
 returns : tie.Need-returns
-returns c = power-on-put _ _ _ _ refl (c .before .before .before .before .before .before .before .put .ensures) (c .before .before .put2 .ensures)
+returns c = power-on-put _ _ _ _ (c .before .before .before .before .before .before .before .before .before .before .state-byte .ensures) (c .before .before .before .before .before .before .before .put .ensures) (c .before .before .put2 .ensures)
 
 pub put-power-on-spec : {M : Type 1} → statement M
 put-power-on-spec =
     tie.close
     (tie.spec
+    state-byte-requires
     array-write-front
     slice-aggregate-put
     put-requires

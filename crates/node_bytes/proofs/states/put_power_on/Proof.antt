@@ -1,0 +1,34 @@
+-- The state's byte, and zeros. Assumes nothing.
+use Rattle.node_bytes.proofs.Heads.{power-on-put}
+use borrow.Author.Needs.{needs}
+use Rattle.node_bytes.proofs.states.put_power_on.Statement.{statement}
+use Rattle.node_bytes.proofs.states.put_power_on.Tie as tie
+
+state-byte-requires : tie.Need-state-byte-requires
+state-byte-requires c κs = search needs
+
+array-write-bytes : tie.Need-array-write-bytes
+array-write-bytes c = search needs
+
+slice-aggregate-put : tie.Need-slice-aggregate-put
+slice-aggregate-put c = search needs
+
+put-requires : tie.Need-put-requires
+put-requires c κs = search needs
+
+same-length : tie.Need-same-length
+same-length c = search needs
+
+returns : tie.Need-returns
+returns c = power-on-put _ _ _ (c .before .before .before .before .before .state-byte .ensures) (c .before .before .put .ensures)
+
+pub put-power-on-spec : {M : Type 1} → statement M
+put-power-on-spec =
+    tie.close
+    (tie.spec
+    state-byte-requires
+    array-write-bytes
+    slice-aggregate-put
+    put-requires
+    same-length
+    returns)

@@ -1,0 +1,60 @@
+-- The rows in the bytes: looked up, and judged one after the other.
+use Prim.Native.Nat.{ℕ, _+_, _<_, _≤_}
+use mathlib.Core.Path.{_≡_, refl, ap, sym, _∙_}
+use mathlib.Core.Bool.{Bool, true, false}
+use mathlib.Core.List.{List}
+use native.Mathlib.Omega.{arith}
+use Rattle.folds.specs.Fold.{allTo, anyTo}
+use Rattle.folds.proofs.Tables.{getD-tab}
+use Rattle.blocks.specs.Bytes.{number}
+use Rattle.plan.specs.declared.Row.{Row}
+use Rattle.plan.specs.declared.Lookup.{Lookup}
+use Rattle.plan.specs.Record.{rowAt, rowsUsed, zeroRow}
+use Rattle.plan.specs.Find.{hasReqid, rowAmong, findRow}
+use Rattle.plan.specs.Rules.{reqidBefore, rowAfter, rowRight, publishes}
+use Rattle.plan.proofs.Lookups.{has, has-not, among-none, among-found}
+use Rattle.plan.proofs.Rows.{reqid-next}
+use Rattle.reader.specs.Record.{recordRow, rowsIn, planIn}
+use Rattle.plan_bytes.specs.RowsRefusal.{rowsRefusal}
+
+module _ (s : List ℕ) (j : ℕ) (h : j < 127) (row : Row) (is : row ≡ recordRow s j) where
+  same : row ≡ rowAt (rowsIn s) j
+  same = is ∙ sym (getD-tab 127 (recordRow s) j zeroRow h)
+
+  pub its-publisher : rowAt (rowsIn s) j .publisher ≡ row .publisher
+  its-publisher = ap (λ (x : Row). x .publisher) (sym same)
+
+  pub next-before : row .reqid ≡ reqidBefore (rowsIn s) (j + 1)
+  next-before = ap (λ (x : Row). x .reqid) same ∙ reqid-next (rowsIn s) j
+
+  pub judged : (n b : ℕ) (x : Bool) → b ≡ reqidBefore (rowsIn s) j → rowAfter n b row ≡ x → rowRight n (rowsIn s) j ≡ x
+  unfolding rowRight
+  judged n b x e w = rw (← e, ← same, w)
+
+  pub other : (reqid : ℕ) → (row .reqid ≡ reqid → ⊥) → hasReqid (rowsIn s) reqid j ≡ false
+  other reqid q = has-not (rowsIn s) reqid j (λ w. q (ap (λ (x : Row). x .reqid) same ∙ w))
+
+  pub found : (reqid count : ℕ) → j < count → count ≡ rowsUsed (number s 3) → anyTo (hasReqid (rowsIn s) reqid) j ≡ false → row .reqid ≡ reqid
+      → Lookup.Found row ≡ findRow (planIn s) reqid
+  unfolding findRow
+  found reqid count l u n q =
+      ap (λ (x : Row). Lookup.Found x) same
+      ∙ sym (among-found (rowsIn s) reqid count j l n (has (rowsIn s) reqid j (ap (λ (x : Row). x .reqid) (sym same) ∙ q)))
+      ∙ ap (rowAmong (rowsIn s) reqid) u
+
+pub missing : (s : List ℕ) (reqid count : ℕ) → count ≡ rowsUsed (number s 3) → anyTo (hasReqid (rowsIn s) reqid) count ≡ false → Lookup.Missing ≡ findRow (planIn s) reqid
+unfolding findRow
+missing s reqid count u n = sym (among-none (rowsIn s) reqid count n) ∙ ap (rowAmong (rowsIn s) reqid) u
+
+module _ (rows : List Row) (n count : ℕ) where
+  pub refuses-7 : allTo (rowRight n rows) count ≡ false → 7 ≡ rowsRefusal rows n count
+  unfolding rowsRefusal
+  refuses-7 e = rw e
+
+  pub refuses-8 : allTo (rowRight n rows) count ≡ true → allTo (publishes rows count) n ≡ false → 8 ≡ rowsRefusal rows n count
+  unfolding rowsRefusal
+  refuses-8 e f = rw (e, f)
+
+  pub keeps : allTo (rowRight n rows) count ≡ true → allTo (publishes rows count) n ≡ true → 0 ≡ rowsRefusal rows n count
+  unfolding rowsRefusal
+  keeps e f = rw (e, f)
