@@ -1,8 +1,9 @@
 -- Requests, answers and the sleep message on the bus.
 use Prim.Native.Nat.{ℕ}
 use mathlib.Core.Bool.{Bool, true, false, not, _&&_}
+use mathlib.Core.List.{List}
 use lib.Dec.{ltb, eqb}
-use lib.ListN.{getD}
+use lib.ListN.{getD, set}
 use Rattle.folds.specs.Fold.{pick}
 use Rattle.machine.specs.declared.State.{State}
 use Rattle.machine.specs.State.{isNormal}
@@ -11,22 +12,25 @@ use Rattle.plan.specs.declared.Plan.{Plan}
 use Rattle.plan.specs.declared.Row.{Row}
 use Rattle.plan.specs.Answers.{isPolled}
 use Rattle.plan.specs.Find.{findRow}
+use Rattle.node.specs.declared.Node.{Node}
 use Rattle.node.specs.declared.Command as NodeCommand
 use Rattle.node.specs.declared.Reply as NodeReply
 use Rattle.node.specs.Sending.{requestStep, sendAskStep}
 use Rattle.master.specs.declared.Answer.{Answer}
+use Rattle.master.specs.declared.Master.{Master}
 use Rattle.master.specs.declared.Command as MasterCommand
 use Rattle.master.specs.declared.Reply as MasterReply
 use Rattle.master.specs.Answers.{answerStep}
 use Rattle.master.specs.Sleeping.{sleepAskStep, sendResultStep}
 use Rattle.bus.specs.declared.Bus.{Bus}
 use Rattle.bus.specs.declared.Arrival.{Arrival}
+use Rattle.bus.specs.declared.Delivered.{Delivered}
 use Rattle.bus.specs.declared.Fate.{Fate}
 use Rattle.bus.specs.declared.Message.{Message}
 use Rattle.bus.specs.declared.World.{World}
 use Rattle.bus.specs.Owners.{ofNode}
 use Rattle.bus.specs.Pulses.{reachAll}
-use Rattle.bus.specs.World.{nodeAt, withMaster, withNodes, withNode, Passed, answered, sending, slept, nothing, Outcome, stays}
+use Rattle.bus.specs.World.{nodeAt, withMaster, withNodes, Passed, answered, sending, slept, nothing, Outcome, stays}
 
 -- "damaged (result not 0, ReqId kept, count still 0 to 3)"
 abbrev pub fateRight : Fate → Bool
@@ -49,41 +53,62 @@ carried (Fate.Damaged damage) row (NodeCommand.Command.Send permission wake coun
     (record { reqid = row .reqid; result = damage .result; length = damage .length; count = damage .count; permission = damage .permission; wake = damage .wake })
 carried Fate.Lost row (NodeCommand.Command.Send permission wake count) = Arrival.Nothing
 
--- the master's reply to an answer
-abbrev pub answeredBy : Row → Answer → World → MasterReply.Reply → Outcome
-answeredBy row a w reply = record { world = withMaster (reply .master) w; refusal = reply .refusal; passed = answered row a }
+-- what becomes of a publisher's reply at the master
+pub record Delivery : Type 0 where
+  pub master : Master
+  pub refusal : ℕ
+  pub passed : Passed
 
-abbrev pub arrive : Row → World → Arrival → Outcome
-arrive row w Arrival.Nothing = stays w 0
-arrive row w (Arrival.Answer a) = answeredBy row a w (answerStep (Lookup.Found row) a (w .master))
+-- what code returns of it
+abbrev pub delivered : Delivery → Delivered
+delivered d = record { master = d .master; refusal = d .refusal }
+
+-- nothing reaches the master
+abbrev pub unanswered : Master → ℕ → Delivery
+unanswered m refusal = record { master = m; refusal = refusal; passed = nothing }
+
+abbrev pub answeredBy : Row → Answer → MasterReply.Reply → Delivery
+answeredBy row a reply = record { master = reply .master; refusal = reply .refusal; passed = answered row a }
+
+abbrev pub arrive : Row → Master → Arrival → Delivery
+arrive row m Arrival.Nothing = unanswered m 0
+arrive row m (Arrival.Answer a) = answeredBy row a (answerStep (Lookup.Found row) a m)
 
 -- a publisher's reply goes on to the master: "The refusal .. is the acting or publishing machine's, else the master's"
-abbrev pub deliver : Row → Fate → NodeReply.Reply → World → Outcome
-deliver row fate reply w = pick (not (eqb (reply .refusal) 0)) (stays w (reply .refusal)) (arrive row w (carried fate row (reply .command)))
+abbrev pub deliver : Row → Fate → NodeReply.Reply → Master → Delivery
+deliver row fate reply m = pick (not (eqb (reply .refusal) 0)) (unanswered m (reply .refusal)) (arrive row m (carried fate row (reply .command)))
+
+-- with the nodes as they are then
+abbrev pub deliveredIn : List Node → Delivery → Outcome
+deliveredIn nodes d = record { world = record { master = d .master; nodes = nodes }; refusal = d .refusal; passed = d .passed }
+
+-- the publisher's reply to a request that reached it, and the others that it reaches
+abbrev pub requestBy : ℕ → Row → Bus → World → NodeReply.Reply → Outcome
+requestBy count row bus w reply =
+    deliveredIn
+    (reachAll (Message.Request (Lookup.Found row)) (set (bus .reached) (row .publisher) false) count (set (w .nodes) (row .publisher) (reply .node)))
+    (deliver row (bus .fate) reply (w .master))
 
 -- "A request reaches any set of nodes"; "A master's row .. is heard and brings no answer"
 abbrev pub publish : ℕ → Row → Bus → World → Outcome
 publish count row bus w =
-    pick (ltb (row .publisher) count)
-    (pick (getD (bus .reached) (row .publisher) false)
-    (deliver row (bus .fate) (requestStep (row .publisher) (Lookup.Found row) (nodeAt (w .nodes) (row .publisher)))
-    (withNodes (reachAll (Message.Request (Lookup.Found row)) (bus .reached) count (w .nodes)) w))
-    (stays (withNodes (reachAll (Message.Request (Lookup.Found row)) (bus .reached) count (w .nodes)) w) 0))
+    pick (ltb (row .publisher) count && getD (bus .reached) (row .publisher) false)
+    (requestBy count row bus w (requestStep (row .publisher) (Lookup.Found row) (nodeAt (w .nodes) (row .publisher))))
     (stays (withNodes (reachAll (Message.Request (Lookup.Found row)) (bus .reached) count (w .nodes)) w) 0)
 
 -- "then a ReqId not in the plan gives 12"
-abbrev pub requestBy : ℕ → Bus → World → Lookup → Outcome
-requestBy count bus w Lookup.Missing = stays w 12
-requestBy count bus w (Lookup.Found row) = publish count row bus w
+abbrev pub publishFound : ℕ → Bus → World → Lookup → Outcome
+publishFound count bus w Lookup.Missing = stays w 12
+publishFound count bus w (Lookup.Found row) = publish count row bus w
 
 abbrev pub judgedMessage : ℕ → World → Outcome → Outcome
 judgedMessage refusal w o = pick (not (eqb refusal 0)) (stays w refusal) o
 
 abbrev pub requestMove : Plan → ℕ → ℕ → Bus → World → Outcome
-requestMove p count reqid bus w = judgedMessage (messageRefusal reqid (bus .fate) (w .master .state)) w (requestBy count bus w (findRow p reqid))
+requestMove p count reqid bus w = judgedMessage (messageRefusal reqid (bus .fate) (w .master .state)) w (publishFound count bus w (findRow p reqid))
 
 abbrev pub sentBy : ℕ → Row → Fate → World → NodeReply.Reply → Outcome
-sentBy node row fate w reply = deliver row fate reply (withNode node (reply .node) w)
+sentBy node row fate w reply = deliveredIn (set (w .nodes) node (reply .node)) (deliver row fate reply (w .master))
 
 -- a node's own sending of a row, which no other node hears
 abbrev pub sendRow : ℕ → Bool → Row → Fate → World → Outcome

@@ -105,6 +105,12 @@ pub enum Arrival {
     Answer(Answer),
 }
 
+// The master after a publisher's reply went on to it.
+pub struct Delivered {
+    pub master: Master,
+    pub refusal: u8,
+}
+
 fn stays(world: World, refusal: u8) -> Moved
     ensures { λ r. ⌜ r ≡ moved (stays world refusal) ⌝ }
 {

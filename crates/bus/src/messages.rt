@@ -2,9 +2,10 @@
 ghost use mathlib.Core.Path.{_≡_};
 ghost use Prim.Native.Nat.{_≤_, _<_};
 ghost use Rattle.bus.specs.World.{moved};
-ghost use Rattle.bus.specs.Messages.{fateRight, messageRefusal, carried, deliver, publish, requestMove, sendRow, sendAskBy, sendAskMove, sleepAskMove, sendResultMove};
+ghost use Rattle.bus.specs.Messages.{fateRight, messageRefusal, carried, delivered, deliver, publish, requestMove, sendRow, sendAskBy, sendAskMove, sleepAskMove, sendResultMove};
 use crate::Arrival;
 use crate::Bus;
+use crate::Delivered;
 use crate::Fate;
 use crate::Message;
 use crate::Moved;
@@ -14,6 +15,7 @@ use crate::stays;
 use crate::ticks::is_normal;
 use machine::State;
 use master::Answer;
+use master::Master;
 use node::Command;
 use node::Reply;
 use plan::Lookup;
@@ -77,56 +79,60 @@ fn carried(fate: Fate, row: Row, command: Command) -> Arrival
     }
 }
 
-impl World {
-    // What a publisher sent goes on to the master; the world has the nodes as its step left them.
-    fn deliver(self, row: Row, fate: Fate, reply: Reply) -> Moved
-        ensures { λ r. ⌜ r ≡ moved (deliver row fate reply self) ⌝ }
-    {
-        if !(reply.refusal == 0) {
-            return stays(self, reply.refusal);
-        }
-        let command = reply.command;
-        match carried(fate, row, command) {
-            Arrival::Nothing => stays(self, 0),
-            Arrival::Answer(answer) => {
-                let master = self.master;
-                let told = master.answer(Lookup::Found(row), answer);
-                let next = told.master;
-                Moved {
-                    world: World {
-                        master: next,
-                        ..self
-                    },
-                    refusal: told.refusal,
-                }
+// What a publisher sent goes on to the master.
+fn deliver(master: Master, row: Row, fate: Fate, reply: Reply) -> Delivered
+    ensures { λ r. ⌜ r ≡ delivered (deliver row fate reply master) ⌝ }
+{
+    if !(reply.refusal == 0) {
+        return Delivered {
+            master,
+            refusal: reply.refusal,
+        };
+    }
+    let command = reply.command;
+    match carried(fate, row, command) {
+        Arrival::Nothing => Delivered { master, refusal: 0 },
+        Arrival::Answer(answer) => {
+            let told = master.answer(Lookup::Found(row), answer);
+            let next = told.master;
+            Delivered {
+                master: next,
+                refusal: told.refusal,
             }
         }
     }
+}
 
-    // A request of a row reaches the nodes of a set; its publisher, if it is one of them, answers.
+impl World {
+    // A request of a row reaches the nodes of a set; its publisher, if it is one of them, answers by the one step that it makes.
     fn publish(self, count: u8, row: Row, bus: Bus) -> Moved
         requires { ⌜ count ≤ 16 ⌝ }
         ensures { λ r. ⌜ r ≡ moved (publish count row bus self) ⌝ }
     {
-        let nodes = self.nodes;
-        let reached = bus.reached;
-        let fate = bus.fate;
-        let heard = reach_all(nodes, count, reached, Message::Request(Lookup::Found(row)));
-        let world = World {
-            nodes: heard,
-            ..self
-        };
         let publisher = row.publisher;
+        let fate = bus.fate;
+        let mut nodes = self.nodes;
+        let mut reached = bus.reached;
+        let master = self.master;
+        let mut told = Delivered { master, refusal: 0 };
         if publisher < count {
             if reached[publisher as usize] {
                 let asked = nodes[publisher as usize];
                 let reply = asked.request(publisher, Lookup::Found(row));
-                world.deliver(row, fate, reply)
-            } else {
-                stays(world, 0)
+                let next = reply.node;
+                nodes[publisher as usize] = next;
+                reached[publisher as usize] = false;
+                told = deliver(master, row, fate, reply);
             }
-        } else {
-            stays(world, 0)
+        }
+        let after = told.master;
+        let heard = reach_all(nodes, count, reached, Message::Request(Lookup::Found(row)));
+        Moved {
+            world: World {
+                master: after,
+                nodes: heard,
+            },
+            refusal: told.refusal,
         }
     }
 
@@ -157,8 +163,16 @@ impl World {
         let reply = asked.send_ask(node, polled, Lookup::Found(row));
         let next = reply.node;
         nodes[node as usize] = next;
-        let world = World { nodes, ..self };
-        world.deliver(row, fate, reply)
+        let master = self.master;
+        let told = deliver(master, row, fate, reply);
+        let after = told.master;
+        Moved {
+            world: World {
+                master: after,
+                nodes,
+            },
+            refusal: told.refusal,
+        }
     }
 
     fn send_found(self, node: u8, polled: bool, row: Lookup, fate: Fate) -> Moved

@@ -30,7 +30,7 @@ pub(crate) fn with_caller(callers: Callers, node: u8, command: Command) -> Calle
     }
 }
 
-fn any_called(callers: Callers) -> bool
+pub(crate) fn any_called(callers: Callers) -> bool
     ensures { λ r. ⌜ r ≡ anyCalled callers ⌝ }
 {
     match callers {

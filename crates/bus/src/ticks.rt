@@ -10,6 +10,7 @@ use crate::Callers;
 use crate::Moved;
 use crate::Ticked;
 use crate::World;
+use crate::pulses::any_called;
 use crate::pulses::with_caller;
 use machine::State;
 use node::Delay;
@@ -82,6 +83,13 @@ impl World {
             master: next,
             nodes,
         };
+        // most ticks: the world goes on without the copies that a pulse costs
+        if !any_called(callers) {
+            return Moved {
+                world,
+                refusal: reply.refusal,
+            };
+        }
         Moved {
             world: world.spread(count, callers, bus),
             refusal: reply.refusal,

@@ -47,7 +47,7 @@ use Rattle.bus.specs.declared.Fate.{Fate}
 use Rattle.bus.specs.declared.Message.{Message}
 use Rattle.bus.specs.declared.Move.{Move}
 use Rattle.bus.specs.declared.World.{World}
-use Rattle.bus.specs.Messages.{fateRight, messageRefusal, judgedMessage, carried, arrive, deliver, requestBy, sendAskBy, sendingBy}
+use Rattle.bus.specs.Messages.{fateRight, messageRefusal, judgedMessage, carried, Delivery, arrive, deliver, deliveredIn, publishFound, sendAskBy, sendingBy}
 use Rattle.bus.specs.Moves.{actBy, worldAct}
 use Rattle.bus.specs.Owners.{ofNode, wakeAskBy, permissionBy}
 use Rattle.bus.specs.Pulses.{withCaller, anyCalled, reachAll, spread}
@@ -115,7 +115,7 @@ module _ (p : Plan) (ok : planRefusal p ≡ 0) (past : List Passed) where
 
     arrives : (nodes : List Node) (a : Answer) → AllTold p nodes past → row .publisher < p .nodecount → a .reqid ≡ row .reqid → a .count < 4
         → (isWhole row a ≡ true → a .permission ≡ true → nodePermitted (row .publisher) past ≡ true)
-        → Kept (arrive row (record { master = w .master; nodes = nodes }) (Arrival.Answer a))
+        → Kept (deliveredIn nodes (arrive row (w .master) (Arrival.Answer a)))
     arrives nodes a told l q c honest =
         record {
           nodes = record { size = told .size; each = told .each };
@@ -143,7 +143,7 @@ module _ (p : Plan) (ok : planRefusal p ≡ 0) (past : List Passed) where
       quietly : (number : ℕ) → Kept (stays Then number)
       quietly number = stays-told Then number (record { nodes = told; master = v .master })
 
-      sends : (f : Fate) → fateRight f ≡ true → (c : NodeCommand.Command) → Tells n ⊥ (ownRow me (Lookup.Found row) n) c → Kept (arrive row Then (carried f row c))
+      sends : (f : Fate) → fateRight f ≡ true → (c : NodeCommand.Command) → Tells n ⊥ (ownRow me (Lookup.Found row) n) c → Kept (deliveredIn nodes (arrive row (w .master) (carried f row c)))
       sends f r NodeCommand.Command.Nothing t = quietly 0
       sends f r NodeCommand.Command.Pulse t = quietly 0
       sends Fate.Whole r (NodeCommand.Command.Send permission wake count) t =
@@ -160,8 +160,8 @@ module _ (p : Plan) (ok : planRefusal p ≡ 0) (past : List Passed) where
           unwhole false e q = no-way e
       sends Fate.Lost r (NodeCommand.Command.Send permission wake count) t = quietly 0
 
-      delivers : (reply : NodeReply.Reply) → Tells n ⊥ (ownRow me (Lookup.Found row) n) (reply .command) → Kept (deliver row fate reply Then)
-      delivers reply t = by-test Kept (not (eqb (reply .refusal) 0)) (λ e. quietly (reply .refusal)) (λ e. sends fate (moves .right) (reply .command) t)
+      delivers : (reply : NodeReply.Reply) → Tells n ⊥ (ownRow me (Lookup.Found row) n) (reply .command) → Kept (deliveredIn nodes (deliver row fate reply (w .master)))
+      delivers reply t = by-test (λ (d : Delivery). Kept (deliveredIn nodes d)) (not (eqb (reply .refusal) 0)) (λ e. quietly (reply .refusal)) (λ e. sends fate (moves .right) (reply .command) t)
 
   module _ (w : World) (v : AsTold p w past) where
     -- 15 and 16, or a message that moves
@@ -171,29 +171,19 @@ module _ (p : Plan) (ok : planRefusal p ≡ 0) (past : List Passed) where
         by-test Kept (not (eqb (messageRefusal reqid fate (w .master .state)) 0)) (λ e. stays-told w (messageRefusal reqid fate (w .master .state)) v)
         (λ e. h (message-moves reqid fate (w .master .state) (eqb-true (messageRefusal reqid fate (w .master .state)) 0 (not-false _ e))))
 
-    request-told : (reqid : ℕ) (bus : Bus) → Moves reqid (bus .fate) (w .master .state) → Kept (requestBy (nodesUsed (p .nodecount)) bus w (findRow p reqid))
+    request-told : (reqid : ℕ) (bus : Bus) → Moves reqid (bus .fate) (w .master .state) → Kept (publishFound (nodesUsed (p .nodecount)) bus w (findRow p reqid))
     request-told reqid bus moves = go (findRow p reqid) refl
       where
-        go : (row : Lookup) → findRow p reqid ≡ row → Kept (requestBy (nodesUsed (p .nodecount)) bus w row)
+        go : (row : Lookup) → findRow p reqid ≡ row → Kept (publishFound (nodesUsed (p .nodecount)) bus w row)
         go Lookup.Missing e = stays-told w 12 v
         go (Lookup.Found row) e =
-            by-test Kept (ltb (row .publisher) (nodesUsed (p .nodecount)))
-            (λ l. by-test Kept (getD (bus .reached) (row .publisher) false)
-            (λ r.
-            let k : row .publisher < p .nodecount = omega (arith, ltb-true (row .publisher) (nodesUsed (p .nodecount)) l) in
-            delivers w v reqid row (bus .fate) e moves (row .publisher) (nodeAt (w .nodes) (row .publisher)) k (v .nodes .each (row .publisher) k) heard told
+            by-test Kept (ltb (row .publisher) (nodesUsed (p .nodecount)) && getD (bus .reached) (row .publisher) false)
+            (λ l.
+            let k : row .publisher < p .nodecount = omega (arith, ltb-true (row .publisher) (nodesUsed (p .nodecount)) (and-l (ltb (row .publisher) (nodesUsed (p .nodecount))) (getD (bus .reached) (row .publisher) false) l)) in
+            delivers w v reqid row (bus .fate) e moves (row .publisher) (nodeAt (w .nodes) (row .publisher)) k (v .nodes .each (row .publisher) k) _
+            (Nodes.request-told p ok (Lookup.Found row) (set (bus .reached) (row .publisher) false) _ past (Nodes.publisher-told p ok (row .publisher) (Lookup.Found row) (w .nodes) past (v .nodes) k))
             (requestStep (row .publisher) (Lookup.Found row) (nodeAt (w .nodes) (row .publisher))) (request-tells (row .publisher) (Lookup.Found row) (nodeAt (w .nodes) (row .publisher))))
-            (λ r. unanswered))
-            (λ l. unanswered)
-          where
-            heard : List Node
-            heard = reachAll (Message.Request (Lookup.Found row)) (bus .reached) (nodesUsed (p .nodecount)) (w .nodes)
-
-            told : AllTold p (reachAll (Message.Request (Lookup.Found row)) (bus .reached) (nodesUsed (p .nodecount)) (w .nodes)) past
-            told = Nodes.request-told p ok (Lookup.Found row) (bus .reached) (w .nodes) past (v .nodes)
-
-            unanswered : Kept (stays (record { master = w .master; nodes = reachAll (Message.Request (Lookup.Found row)) (bus .reached) (nodesUsed (p .nodecount)) (w .nodes) }) 0)
-            unanswered = stays-told (record { master = w .master; nodes = heard }) 0 (record { nodes = told; master = v .master })
+            (λ l. stays-told _ 0 (record { nodes = Nodes.request-told p ok (Lookup.Found row) (bus .reached) (w .nodes) past (v .nodes); master = v .master }))
 
     send-ask-told : (node reqid : ℕ) (bus : Bus) → node < p .nodecount → Moves reqid (bus .fate) (w .master .state)
         → Kept (sendAskBy node (isPolled p node) (bus .fate) w (findRow p reqid))
@@ -246,7 +236,7 @@ module _ (p : Plan) (ok : planRefusal p ≡ 0) (past : List Passed) where
         })
     move-told bus (Act.MasterPermission permitted) =
         record { nodes = record { size = v .nodes .size; each = v .nodes .each }; master = Masters.permission-told p ok past permitted (w .master) (v .master) }
-    move-told bus (Act.Request reqid) = judged-told reqid (bus .fate) (requestBy (nodesUsed (p .nodecount)) bus w (findRow p reqid)) (request-told reqid bus)
+    move-told bus (Act.Request reqid) = judged-told reqid (bus .fate) (publishFound (nodesUsed (p .nodecount)) bus w (findRow p reqid)) (request-told reqid bus)
     move-told bus (Act.SendAsk node reqid) =
         of-node node w
         (judgedMessage (messageRefusal reqid (bus .fate) (w .master .state)) w (sendAskBy node (isPolled p node) (bus .fate) w (findRow p reqid))) v

@@ -18,7 +18,7 @@ use Rattle.node.specs.declared.Node.{Node}
 use Rattle.node.specs.Changes as NodeChanges
 use Rattle.node.specs.Ticks.{tickStep}
 use Rattle.node.specs.Waking.{wakeAskStep, permissionStep}
-use Rattle.node.specs.Sending.{sendAskStep}
+use Rattle.node.specs.Sending.{requestStep, sendAskStep}
 use Rattle.node.proofs.Commands.{Tells, tick-tells}
 use Rattle.node.proofs.Settling.{InRun, run-power-on, run-off-ends, run-tick, run-pulse, run-wake-ask, run-permission, run-sleep-message, run-request, run-send-ask}
 use Rattle.master.specs.declared.Master.{Master}
@@ -133,6 +133,11 @@ module _ (p : Plan) (ok : planRefusal p ≡ 0) where
   request-told row reached nodes past v =
       over (λ k n. receiveIf (getD reached k false) (Message.Request row) k n) nodes past past v
       (λ i l s. by-test (Told p i past) (getD reached i false) (λ h. run-request (p .times) _ _ _ (nodeAt nodes i) s times i row) (λ h. s))
+
+  pub publisher-told : (k : ℕ) (row : Lookup) (nodes : List Node) (past : List Passed) → AllTold p nodes past → k < p .nodecount
+      → AllTold p (set nodes k (requestStep k row (nodeAt nodes k) .node)) past
+  publisher-told k row nodes past v l =
+      one k (requestStep k row (nodeAt nodes k) .node) nodes past past v l (run-request (p .times) _ _ _ (nodeAt nodes k) (v .each k l) times k row) (λ i h e s. s)
 
   pub send-ask-told : (k : ℕ) (polled : Bool) (row : Lookup) (nodes : List Node) (past : List Passed) → AllTold p nodes past → k < p .nodecount
       → AllTold p (set nodes k (sendAskStep k polled row (nodeAt nodes k) .node)) past

@@ -23,30 +23,37 @@ use Rattle.drill_text.specs.Lines.{moveLine, badLine}
 use Rattle.drill_text.proofs.Lines.{move-short, bad-short}
 use Rattle.drill_feed.specs.declared.Drill.{Drill}
 use Rattle.drill_feed.specs.declared.Held.{Held}
-use Rattle.drill_feed.specs.declared.Told.{Told}
 use Rattle.drill_feed.specs.Moves.{moveOf}
-use Rattle.drill_feed.specs.Feed.{next, lineMoved, worldAfter, lineText, emptyHeld, holdByte, holdAll, heldLine, ended, lineSaid, keeps, byteFed, byteSaid, fed, said, lastSaid, LineEnd, Tells, Gives}
+use Rattle.drill_feed.specs.Feed.{next, lineMoved, worldAfter, lineText, emptyHeld, holdByte, holdAll, heldLine, ended, lineSaid, keeps, byteFed, byteSaid, fed, said, lastSaid, LineEnd, Gives}
 
--- a line told
+-- a line told: the world w′ after it, and the buffer l′ that was l
+pub record Tells (plan : Plan) (w : World) (number : ℕ) (line : Line) (at : ℕ) (l l′ : List ℕ) (w′ : World) (r : ℕ) : Type 0 where
+  pub after : w′ ≡ worldAfter plan w line
+  pub text : Appended at (lineText plan w number line) l l′ r
+  pub size : length l′ ≡ length l
 
-pub tells-bad : {plan : Plan} {w : World} {number at r : ℕ} {line : Line} {l l′ : List ℕ} → line ≡ Line.Bad → Appended at (badLine number) l l′ r
-    → Tells plan w number line at l l′ (record { world = w; next = r })
-tells-bad e a = record { after = rw e; text = rw e a }
+module _ {plan : Plan} {w w′ : World} {number at q r : ℕ} {line : Line} {l l′ x : List ℕ} where
+  pub tells-bad : line ≡ Line.Bad → l′ ≡ x → w′ ≡ w → r ≡ q → Appended at (badLine number) l x q → length x ≡ length l → Tells plan w number line at l l′ w′ r
+  tells-bad e f g h a k = record { after = rw (e, g); text = rw (e, f, h) a; size = rw f k }
 
-pub tells-move : {plan : Plan} {w : World} {number at r : ℕ} {line : Line} {told : DrillMove} {m : Move} {o : Moved} {l l′ : List ℕ} → line ≡ Line.Move told
-    → m ≡ moveOf told → o ≡ moved (worldAct plan w m) → Appended at (moveLine number (o .world) (plan .nodecount) (o .refusal)) l l′ r
-    → Tells plan w number line at l l′ (record { world = o .world; next = r })
-unfolding lineMoved
-tells-move {plan} {w} {number} {told = told} {o = o} e f g a =
-    let h : o ≡ lineMoved plan w told = g ∙ ap (λ x. moved (worldAct plan w x)) f in
-    record { after = rw e (ap (λ (x : Moved). x .world) h); text = rw e (appended-as (ap (λ (x : Moved). moveLine number (x .world) (plan .nodecount) (x .refusal)) h) a) }
+  pub tells-move : {told : DrillMove} {m : Move} {o : Moved} → line ≡ Line.Move told → l′ ≡ x → w′ ≡ o .world → r ≡ q
+      → m ≡ moveOf told → o ≡ moved (worldAct plan w m) → Appended at (moveLine number (o .world) (plan .nodecount) (o .refusal)) l x q → length x ≡ length l
+      → Tells plan w number line at l l′ w′ r
+  unfolding lineMoved
+  tells-move {told = told} {o = o} e f g h b c a k =
+      let z : o ≡ lineMoved plan w told = c ∙ ap (λ m. moved (worldAct plan w m)) b in
+      record {
+        after = rw e (g ∙ ap (λ (y : Moved). y .world) z);
+        text = rw (e, f, h) (appended-as (ap (λ (y : Moved). moveLine number (y .world) (plan .nodecount) (y .refusal)) z) a);
+        size = rw f k;
+      }
 
 -- the held line ends
-pub ends : (d : Drill) {line : Line} {number at : ℕ} {held : Held} {l l′ : List ℕ} {told : Told} → line ≡ heldLine d → number ≡ next (d .lines) → held ≡ emptyHeld
-    → Tells (d .plan) (d .world) number line at l l′ told
-    → Gives (ended d) at (lineSaid d) l l′ (record { drill = record { plan = d .plan; world = told .world; lines = number; held = held }; length = told .next })
+pub ends : (d : Drill) {line : Line} {number at r : ℕ} {held : Held} {l l′ : List ℕ} {w : World} → line ≡ heldLine d → number ≡ next (d .lines) → held ≡ emptyHeld
+    → Tells (d .plan) (d .world) number line at l l′ w r
+    → Gives (ended d) at (lineSaid d) l l′ (record { drill = record { plan = d .plan; world = w; lines = number; held = held }; length = r })
 unfolding ended lineSaid
-ends d {told = told} e f g t =
+ends d e f g t =
     record {
       state = rw (f, g) (ap (λ w. record { plan = d .plan; world = w; lines = next (d .lines); held = emptyHeld }) (t .after ∙ ap (worldAfter (d .plan) (d .world)) e));
       appended = appended-as (ap₂ (lineText (d .plan) (d .world)) f e) (t .text);

@@ -19,7 +19,6 @@ use Rattle.drill_text.specs.Lines.{moveLine, badLine}
 use Rattle.drill_feed.specs.declared.Held.{Held}
 use Rattle.drill_feed.specs.declared.Drill.{Drill}
 use Rattle.drill_feed.specs.declared.Fed.{Fed}
-use Rattle.drill_feed.specs.declared.Told.{Told}
 use Rattle.drill_feed.specs.Moves.{moveOf}
 
 -- what a move of the drill gives
@@ -117,11 +116,6 @@ pub record LineEnd (bytes : List ℕ) (start end : ℕ) : Type 0 where
   pub within : end ≤ length bytes
   pub inside : (k : ℕ) → k < end → start ≤ k → getD bytes k 0 ≡ 10 → ⊥
   pub found : end < length bytes → getD bytes end 0 ≡ 10
-
--- a line told: the answer r, and the buffer l′ that was l
-pub record Tells (plan : Plan) (w : World) (number : ℕ) (line : Line) (at : ℕ) (l l′ : List ℕ) (r : Told) : Type 0 where
-  pub after : r .world ≡ worldAfter plan w line
-  pub text : Appended at (lineText plan w number line) l l′ (r .next)
 
 -- a drill and a text: the answer r, and the buffer l′ that was l; the text stands in it from an index on, or at its front
 pub record Gives (d : Drill) (at : ℕ) (text l l′ : List ℕ) (r : Fed) : Type 0 where

@@ -5,13 +5,12 @@ ghost use lib.ListN.{length};
 ghost use Rattle.text.specs.Text.{Shown, Counts};
 ghost use Rattle.drill_line.specs.Parse.{parseLine};
 ghost use Rattle.drill_feed.specs.Moves.{busFate, carries, moveOf};
-ghost use Rattle.drill_feed.specs.Feed.{emptyHeld, holdAll, heldText, started, fed, said, lastSaid, LineEnd, Tells, Gives, GivesFirst};
+ghost use Rattle.drill_feed.specs.Feed.{emptyHeld, holdAll, heldText, started, fed, said, lastSaid, LineEnd, Gives, GivesFirst};
 use bus::Act;
 use bus::Bus;
 use bus::Damage;
 use bus::Fate;
 use bus::Move;
-use bus::Moved;
 use bus::World;
 use drill_line::DrillMove;
 use drill_line::Line;
@@ -38,12 +37,6 @@ pub struct Drill {
 pub struct Fed {
     pub drill: Drill,
     pub length: usize,
-}
-
-// A world after a line, and the index past the line's text.
-pub struct Told {
-    pub world: World,
-    pub next: usize,
 }
 
 fn bus_fate(fate: drill_line::Fate) -> Fate
@@ -157,24 +150,6 @@ fn line_end(bytes: &[u8], start: usize) -> usize
     end
 }
 
-// What a line does, and its text from an index on.
-fn tell(plan: Plan, world: World, number: u64, line: Line, out: &mut [u8], at: usize) -> Told
-    ensures { λ r. ⌜ Tells plan world number line at (now (out .entry)) (now (out .exit)) r ⌝ }
-{
-    match line {
-        Line::Bad => {
-            let next = append_bad(out, at, number);
-            Told { world, next }
-        }
-        Line::Move(told) => {
-            let moved = world.act(plan, bus_move(told));
-            let after = moved.world;
-            let next = append_move(out, at, number, after, plan.nodecount, moved.refusal);
-            Told { world: after, next }
-        }
-    }
-}
-
 impl Drill {
     // From power-on.
     pub fn start(plan: Plan) -> Drill
@@ -188,7 +163,7 @@ impl Drill {
         }
     }
 
-    // Its parts go by themselves, so that a line copies the world alone.
+    // Its parts go by themselves, and a move is made here, so that a line copies the world as seldom as can be.
     fn feed_from(self, input: &[u8], out: &mut [u8]) -> Fed
         ensures { λ r. ⌜ Gives (fed self (now (input .entry))) 0 (said self (now (input .entry))) (now (out .entry)) (now (out .exit)) r ⌝ }
     {
@@ -214,9 +189,16 @@ impl Drill {
             }
             let line = held.line(plan.nodecount);
             lines = std::num::wrapping_add_u64(lines, 1);
-            let told = tell(plan, world, lines, line, out, next);
-            world = told.world;
-            next = told.next;
+            match line {
+                Line::Bad => {
+                    next = append_bad(out, next, lines);
+                }
+                Line::Move(told) => {
+                    let moved = world.act(plan, bus_move(told));
+                    world = moved.world;
+                    next = append_move(out, next, lines, world, plan.nodecount, moved.refusal);
+                }
+            }
             held = Held::empty();
             start = end + 1;
         }
@@ -253,7 +235,7 @@ impl Drill {
         if held.count == 0 {
             return 0;
         }
-        // One caller of `tell` alone: the compiler then makes one loop of all and leaves copies of the world out.
+        // One loop over lines alone: the compiler then makes one function of all and leaves copies of the world out.
         let line = self.feed_from(b"\n", out);
         below(&out[..], line.length)
     }

@@ -14,7 +14,7 @@ use Rattle.master.specs.declared.Master.{Master}
 use Rattle.node.specs.declared.Node.{Node}
 use Rattle.bus.specs.declared.World.{World}
 use Rattle.bus.specs.World.{nodeAt, nodesUsed}
-use Rattle.drill_text.specs.Lines.{stateLetter, phaseDigit, clockDigit, statusText, nodeText, nodesText, moveLine, badLine}
+use Rattle.drill_text.specs.Lines.{stateLetter, phaseDigit, clockDigit, statusText, nodeText, nodesText, refusalText, moveLine, badLine}
 
 pub nodes-none : (nodes : List Node) (at : ℕ) (l : List ℕ) → at ≤ largest → Appended at (nodesText nodes 0) l l at
 unfolding nodesText
@@ -44,7 +44,7 @@ nodes-short nodes (suc k) =
     omega (arith, length-append (nodesText nodes k) (nodeText (nodeAt nodes k .state) (nodeAt nodes k .error)), nodes-short nodes k, node-short (nodeAt nodes k .state) (nodeAt nodes k .error))
 
 pub move-short : (number : ℕ) (world : World) (nodecount refusal : ℕ) → length (moveLine number world nodecount refusal) ≤ 80
-unfolding moveLine
+unfolding moveLine refusalText
 move-short number world nodecount refusal =
     simp length-append (omega (arith, decimal-short number, decimal-short refusal, nodes-short (world .nodes) (nodesUsed nodecount)))
 

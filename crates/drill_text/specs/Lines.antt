@@ -43,10 +43,14 @@ unfoldable pub nodesText : List Node → ℕ → List ℕ
 nodesText nodes zero = []
 nodesText nodes (suc n) = nodesText nodes n ++ nodeText (nodeAt nodes n .state) (nodeAt nodes n .error)
 
+-- the word behind the nodes, and the line's end
+unfoldable pub refusalText : ℕ → List ℕ
+refusalText refusal = ascii " " ++ decimal refusal ++ ascii "\n"
+
 -- "number from 1; master state (N, S, Z) with phase; clock; one letter per node, `!` after it for error; refusal or 0"
 unfoldable pub moveLine : ℕ → World → ℕ → ℕ → List ℕ
 moveLine number world nodecount refusal =
-    decimal number ++ statusText (world .master) ++ nodesText (world .nodes) (nodesUsed nodecount) ++ ascii " " ++ decimal refusal ++ ascii "\n"
+    decimal number ++ statusText (world .master) ++ nodesText (world .nodes) (nodesUsed nodecount) ++ refusalText refusal
 
 -- "its number and `?`"
 unfoldable pub badLine : ℕ → List ℕ

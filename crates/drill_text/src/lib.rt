@@ -2,7 +2,7 @@
 ghost use mathlib.Core.Path.{_≡_};
 ghost use Rattle.text.specs.Text.{Appended};
 ghost use Rattle.bus.specs.World.{nodesUsed};
-ghost use Rattle.drill_text.specs.Lines.{stateLetter, phaseDigit, clockDigit, nodeText, nodesText, moveLine, badLine};
+ghost use Rattle.drill_text.specs.Lines.{stateLetter, phaseDigit, clockDigit, nodeText, nodesText, refusalText, moveLine, badLine};
 use bus::World;
 use machine::State;
 use master::Phase;
@@ -69,6 +69,14 @@ fn append_nodes(buffer: &mut [u8], at: usize, nodes: [Node; 16], nodecount: u8) 
     next
 }
 
+fn append_refusal(buffer: &mut [u8], at: usize, refusal: u8) -> usize
+    ensures { λ r. ⌜ Appended at (refusalText refusal) (now (buffer .entry)) (now (buffer .exit)) r ⌝ }
+{
+    let a = append(buffer, at, b" ");
+    let b = append_decimal(buffer, a, refusal as u64);
+    append(buffer, b, b"\n")
+}
+
 // The line of a move: what it left, and its refusal or 0.
 pub fn append_move(
     buffer: &mut [u8],
@@ -90,9 +98,7 @@ pub fn append_move(
     let a = append_decimal(buffer, at, number);
     let b = append(buffer, a, &[b' ', letter, digit, b' ', clock, b' ']);
     let c = append_nodes(buffer, b, nodes, nodecount);
-    let d = append(buffer, c, b" ");
-    let e = append_decimal(buffer, d, refusal as u64);
-    append(buffer, e, b"\n")
+    append_refusal(buffer, c, refusal)
 }
 
 // The line of a line that is no move.

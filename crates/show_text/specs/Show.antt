@@ -14,19 +14,24 @@ use Rattle.text.specs.Text.{ascii, decimal, hexByte}
 unfoldable pub timeLine : List ℕ → ℕ → List ℕ
 timeLine label ticks = label ++ ascii ", ticks: " ++ decimal ticks ++ ascii "\n"
 
+unfoldable pub wakeUpTimesText : Times → List ℕ
+wakeUpTimesText t =
+    timeLine (ascii "R wake-up recovery") (t .recovery) ++ timeLine (ascii "P wake-up space") (t .space) ++ timeLine (ascii "C clock start") (t .start)
+
 unfoldable pub timesText : Times → List ℕ
 timesText t =
     timeLine (ascii "W window") (t .window) ++ timeLine (ascii "D clock stop") (t .stop) ++ timeLine (ascii "S node sleep") (t .sleep)
-    ++ timeLine (ascii "E quiet limit") (t .quiet) ++ timeLine (ascii "R wake-up recovery") (t .recovery)
-    ++ timeLine (ascii "P wake-up space") (t .space) ++ timeLine (ascii "C clock start") (t .start)
+    ++ timeLine (ascii "E quiet limit") (t .quiet) ++ wakeUpTimesText t
 
 unfoldable pub methodText : ℕ → List ℕ
 methodText method = pick (eqb method 0) (ascii "event-triggered") (ascii "polled")
 
+-- behind the address's digits, to the line's end
+unfoldable pub classAndMethodText : ℕ → ℕ → List ℕ
+classAndMethodText class method = ascii " hex, diagnostic class " ++ decimal class ++ ascii ", " ++ methodText method ++ ascii "\n"
+
 unfoldable pub nodeLine : ℕ → NodeEntry → List ℕ
-nodeLine k e =
-    ascii "node " ++ decimal k ++ ascii ": address " ++ hexByte (e .address) ++ ascii " hex, diagnostic class " ++ decimal (e .class)
-    ++ ascii ", " ++ methodText (e .method) ++ ascii "\n"
+nodeLine k e = ascii "node " ++ decimal k ++ ascii ": address " ++ hexByte (e .address) ++ classAndMethodText (e .class) (e .method)
 
 -- the first n nodes
 unfoldable pub nodesText : List NodeEntry → ℕ → List ℕ
@@ -39,19 +44,24 @@ publisherText publisher = pick (eqb publisher 255) (ascii "master") (ascii "node
 unfoldable pub countText : ℕ → List ℕ
 countText kind = pick (eqb kind 0) (ascii "without sequence count") (ascii "with sequence count")
 
+-- behind the publisher, to the line's end
+unfoldable pub lengthAndCountText : ℕ → ℕ → List ℕ
+lengthAndCountText length kind = ascii ", length " ++ decimal length ++ ascii ", " ++ countText kind ++ ascii "\n"
+
 unfoldable pub rowLine : Row → List ℕ
 rowLine r =
-    ascii "ReqId " ++ decimal (r .reqid) ++ ascii ": publisher " ++ publisherText (r .publisher) ++ ascii ", length " ++ decimal (r .length)
-    ++ ascii ", " ++ countText (r .kind) ++ ascii "\n"
+    ascii "ReqId " ++ decimal (r .reqid) ++ ascii ": publisher " ++ publisherText (r .publisher) ++ lengthAndCountText (r .length) (r .kind)
 
 -- the first n rows
 unfoldable pub rowsText : List Row → ℕ → List ℕ
 rowsText rows zero = []
 rowsText rows (suc n) = rowsText rows n ++ rowLine (rowAt rows n)
 
+unfoldable pub revisionLine : ℕ → List ℕ
+revisionLine revision = ascii "revision " ++ decimal revision ++ ascii "\n"
+
 unfoldable pub planText : Plan → List ℕ
-planText p =
-    ascii "revision " ++ decimal (p .revision) ++ ascii "\n" ++ timesText (p .times) ++ nodesText (p .nodes) (p .nodecount) ++ rowsText (p .rows) (p .rowcount)
+planText p = revisionLine (p .revision) ++ timesText (p .times) ++ nodesText (p .nodes) (p .nodecount) ++ rowsText (p .rows) (p .rowcount)
 
 -- the refusal table's words for 1 to 9: of a set's content from 5 on
 unfoldable pub contentRuleText : ℕ → List ℕ

@@ -2,7 +2,7 @@
 ghost use Prim.Native.Nat.{_≤_};
 ghost use Rattle.text.specs.Text.{Appended, Shown, Counts};
 ghost use Rattle.reader.specs.Read.{readSet};
-ghost use Rattle.show_text.specs.Show.{timeLine, timesText, methodText, nodeLine, nodesText, publisherText, countText, rowLine, rowsText, planText, contentRuleText, ruleText, refusalText, answerText};
+ghost use Rattle.show_text.specs.Show.{timeLine, wakeUpTimesText, timesText, methodText, classAndMethodText, nodeLine, nodesText, publisherText, countText, lengthAndCountText, rowLine, rowsText, revisionLine, planText, contentRuleText, ruleText, refusalText, answerText};
 use plan::NodeEntry;
 use plan::Plan;
 use plan::Row;
@@ -22,6 +22,14 @@ fn append_time(buffer: &mut [u8], at: usize, label: &[u8], ticks: u16) -> usize
     append(buffer, c, b"\n")
 }
 
+fn append_wake_up_times(buffer: &mut [u8], at: usize, t: Times) -> usize
+    ensures { λ r. ⌜ Appended at (wakeUpTimesText t) (now (buffer .entry)) (now (buffer .exit)) r ⌝ }
+{
+    let a = append_time(buffer, at, b"R wake-up recovery", t.recovery);
+    let b = append_time(buffer, a, b"P wake-up space", t.space);
+    append_time(buffer, b, b"C clock start", t.start)
+}
+
 fn append_times(buffer: &mut [u8], at: usize, t: Times) -> usize
     ensures { λ r. ⌜ Appended at (timesText t) (now (buffer .entry)) (now (buffer .exit)) r ⌝ }
 {
@@ -29,9 +37,7 @@ fn append_times(buffer: &mut [u8], at: usize, t: Times) -> usize
     let b = append_time(buffer, a, b"D clock stop", t.stop);
     let c = append_time(buffer, b, b"S node sleep", t.sleep);
     let d = append_time(buffer, c, b"E quiet limit", t.quiet);
-    let e = append_time(buffer, d, b"R wake-up recovery", t.recovery);
-    let f = append_time(buffer, e, b"P wake-up space", t.space);
-    append_time(buffer, f, b"C clock start", t.start)
+    append_wake_up_times(buffer, d, t)
 }
 
 fn append_method(buffer: &mut [u8], at: usize, method: u8) -> usize
@@ -44,6 +50,16 @@ fn append_method(buffer: &mut [u8], at: usize, method: u8) -> usize
     }
 }
 
+fn append_class_and_method(buffer: &mut [u8], at: usize, class: u8, method: u8) -> usize
+    ensures { λ r. ⌜ Appended at (classAndMethodText class method) (now (buffer .entry)) (now (buffer .exit)) r ⌝ }
+{
+    let a = append(buffer, at, b" hex, diagnostic class ");
+    let b = append_decimal(buffer, a, class as u64);
+    let c = append(buffer, b, b", ");
+    let d = append_method(buffer, c, method);
+    append(buffer, d, b"\n")
+}
+
 fn append_node(buffer: &mut [u8], at: usize, k: usize, e: NodeEntry) -> usize
     ensures { λ r. ⌜ Appended at (nodeLine k e) (now (buffer .entry)) (now (buffer .exit)) r ⌝ }
 {
@@ -51,11 +67,7 @@ fn append_node(buffer: &mut [u8], at: usize, k: usize, e: NodeEntry) -> usize
     let b = append_decimal(buffer, a, k as u64);
     let c = append(buffer, b, b": address ");
     let d = append_hex(buffer, c, e.address);
-    let f = append(buffer, d, b" hex, diagnostic class ");
-    let g = append_decimal(buffer, f, e.class as u64);
-    let h = append(buffer, g, b", ");
-    let i = append_method(buffer, h, e.method);
-    append(buffer, i, b"\n")
+    append_class_and_method(buffer, d, e.class, e.method)
 }
 
 fn append_nodes(buffer: &mut [u8], at: usize, nodes: [NodeEntry; 16], count: usize) -> usize
@@ -93,6 +105,16 @@ fn append_count(buffer: &mut [u8], at: usize, kind: u8) -> usize
     }
 }
 
+fn append_length_and_count(buffer: &mut [u8], at: usize, length: u8, kind: u8) -> usize
+    ensures { λ r. ⌜ Appended at (lengthAndCountText length kind) (now (buffer .entry)) (now (buffer .exit)) r ⌝ }
+{
+    let a = append(buffer, at, b", length ");
+    let b = append_decimal(buffer, a, length as u64);
+    let c = append(buffer, b, b", ");
+    let d = append_count(buffer, c, kind);
+    append(buffer, d, b"\n")
+}
+
 fn append_row(buffer: &mut [u8], at: usize, row: Row) -> usize
     ensures { λ r. ⌜ Appended at (rowLine row) (now (buffer .entry)) (now (buffer .exit)) r ⌝ }
 {
@@ -100,11 +122,7 @@ fn append_row(buffer: &mut [u8], at: usize, row: Row) -> usize
     let b = append_decimal(buffer, a, row.reqid as u64);
     let c = append(buffer, b, b": publisher ");
     let d = append_publisher(buffer, c, row.publisher);
-    let e = append(buffer, d, b", length ");
-    let f = append_decimal(buffer, e, row.length as u64);
-    let g = append(buffer, f, b", ");
-    let h = append_count(buffer, g, row.kind);
-    append(buffer, h, b"\n")
+    append_length_and_count(buffer, d, row.length, row.kind)
 }
 
 fn append_rows(buffer: &mut [u8], at: usize, rows: [Row; 127], count: usize) -> usize
@@ -121,6 +139,14 @@ fn append_rows(buffer: &mut [u8], at: usize, rows: [Row; 127], count: usize) -> 
     next
 }
 
+fn append_revision(buffer: &mut [u8], at: usize, revision: u16) -> usize
+    ensures { λ r. ⌜ Appended at (revisionLine revision) (now (buffer .entry)) (now (buffer .exit)) r ⌝ }
+{
+    let a = append(buffer, at, b"revision ");
+    let b = append_decimal(buffer, a, revision as u64);
+    append(buffer, b, b"\n")
+}
+
 fn append_plan(buffer: &mut [u8], at: usize, p: Plan) -> usize
     requires { ⌜ (p .nodecount ≤ 16) × (p .rowcount ≤ 127) ⌝ }
     ensures { λ r. ⌜ Appended at (planText p) (now (buffer .entry)) (now (buffer .exit)) r ⌝ }
@@ -128,12 +154,10 @@ fn append_plan(buffer: &mut [u8], at: usize, p: Plan) -> usize
     let times = p.times;
     let nodes = p.nodes;
     let rows = p.rows;
-    let a = append(buffer, at, b"revision ");
-    let b = append_decimal(buffer, a, p.revision as u64);
-    let c = append(buffer, b, b"\n");
-    let d = append_times(buffer, c, times);
-    let e = append_nodes(buffer, d, nodes, p.nodecount as usize);
-    append_rows(buffer, e, rows, p.rowcount as usize)
+    let a = append_revision(buffer, at, p.revision);
+    let b = append_times(buffer, a, times);
+    let c = append_nodes(buffer, b, nodes, p.nodecount as usize);
+    append_rows(buffer, c, rows, p.rowcount as usize)
 }
 
 fn append_content_rule(buffer: &mut [u8], at: usize, number: u8) -> usize

@@ -31,31 +31,19 @@ append-requires c κs = search needs
 append-nodes-requires : tie.Need-append-nodes-requires
 append-nodes-requires c κs = search needs
 
-slice-aggregate-append-2 : tie.Need-slice-aggregate-append-2
-slice-aggregate-append-2 c = search needs
-
-append-requires-2 : tie.Need-append-requires-2
-append-requires-2 c κs = search needs
-
-append-decimal-requires-2 : tie.Need-append-decimal-requires-2
-append-decimal-requires-2 c κs = search needs
-
-slice-aggregate-append-3 : tie.Need-slice-aggregate-append-3
-slice-aggregate-append-3 c = search needs
-
-append-requires-3 : tie.Need-append-requires-3
-append-requires-3 c κs = search needs
+append-refusal-requires : tie.Need-append-refusal-requires
+append-refusal-requires c κs = search needs
 
 same-length : tie.Need-same-length
-same-length c = omega (arith, c .before .before .before .before .before .before .before .before .before .before .before .before .before .before .before .before .before .before .before .before .before .before .before .before .before .append-decimal .kept .0, c .before .before .before .before .before .before .before .before .before .before .before .before .before .before .before .before .before .before .before .before .append .kept .0, c .before .before .before .before .before .before .before .before .before .before .before .before .before .before .before .before .append-nodes .kept .0, c .before .before .before .before .before .before .before .before .before .before .before .append2 .kept .0, c .before .before .before .before .before .before .before .append-decimal2 .kept .0, c .before .before .append3 .kept .0)
+same-length c = search needs
 
 returns : tie.Need-returns
 unfolding moveLine
 returns c =
-    let a = c .before .before .before .before .before .before .before .before .before .before .before .before .before .before .before .before .before .before .before .before .before .before .before .before .before .before .before .before .before .before .before .before .before .args in
-    let f : length (a .buffer .now) ≤ largest = omega (arith, c .before .before .before .before .before .before .before .before .before .before .before .before .before .before .before .before .before .before .before .before .before .before .before .before .before .before .before .before .before .before .before .before .before .good .0 .0) in
-    let state = appended-as (status-as (a .world .master) (c .before .before .before .before .before .before .before .before .before .before .before .before .before .before .before .before .before .before .before .before .before .before .before .before .before .before .before .before .before .state-letter .ensures) (c .before .before .before .before .before .before .before .before .before .before .before .before .before .before .before .before .before .before .before .before .before .before .before .before .before .before .before .before .phase-digit .ensures) (c .before .before .before .before .before .before .before .before .before .before .before .before .before .before .before .before .before .before .before .before .before .before .before .before .before .before .before .clock-digit .ensures)) (c .before .before .before .before .before .before .before .before .before .before .before .before .before .before .before .before .before .before .before .before .append .ensures) in
-    appended-then f (appended-then f (appended-then f (appended-then f (appended-then f (c .before .before .before .before .before .before .before .before .before .before .before .before .before .before .before .before .before .before .before .before .before .before .before .before .before .append-decimal .ensures) state) (c .before .before .before .before .before .before .before .before .before .before .before .before .before .before .before .before .append-nodes .ensures)) (c .before .before .before .before .before .before .before .before .before .before .before .append2 .ensures)) (c .before .before .before .before .before .before .before .append-decimal2 .ensures)) (c .before .before .append3 .ensures)
+    let s = c .before .before .before .before .before .before .before .before .before .before .before .before .before .before .before .before .before .before .before .before .before .before .before in
+    let f : length (s .args .buffer .now) ≤ largest = omega (arith, s .good .0 .0) in
+    let status = appended-as (status-as (s .args .world .master) (c .before .before .before .before .before .before .before .before .before .before .before .before .before .before .before .before .before .before .before .state-letter .ensures) (c .before .before .before .before .before .before .before .before .before .before .before .before .before .before .before .before .before .before .phase-digit .ensures) (c .before .before .before .before .before .before .before .before .before .before .before .before .before .before .before .before .before .clock-digit .ensures)) (c .before .before .before .before .before .before .before .before .before .before .append .ensures) in
+    appended-then f (appended-then f (appended-then f (c .before .before .before .before .before .before .before .before .before .before .before .before .before .before .before .append-decimal .ensures) status) (c .before .before .before .before .before .before .append-nodes .ensures)) (c .before .before .append-refusal .ensures)
 
 pub append-move-spec : {M : Type 1} → statement M
 append-move-spec =
@@ -68,10 +56,6 @@ append-move-spec =
     slice-aggregate-append
     append-requires
     append-nodes-requires
-    slice-aggregate-append-2
-    append-requires-2
-    append-decimal-requires-2
-    slice-aggregate-append-3
-    append-requires-3
+    append-refusal-requires
     same-length
     returns)

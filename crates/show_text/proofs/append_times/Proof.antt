@@ -33,32 +33,18 @@ slice-aggregate-append-time-4 c = search needs
 append-time-requires-4 : tie.Need-append-time-requires-4
 append-time-requires-4 c κs = search needs
 
-slice-aggregate-append-time-5 : tie.Need-slice-aggregate-append-time-5
-slice-aggregate-append-time-5 c = search needs
-
-append-time-requires-5 : tie.Need-append-time-requires-5
-append-time-requires-5 c κs = search needs
-
-slice-aggregate-append-time-6 : tie.Need-slice-aggregate-append-time-6
-slice-aggregate-append-time-6 c = search needs
-
-append-time-requires-6 : tie.Need-append-time-requires-6
-append-time-requires-6 c κs = search needs
-
-slice-aggregate-append-time-7 : tie.Need-slice-aggregate-append-time-7
-slice-aggregate-append-time-7 c = search needs
-
-append-time-requires-7 : tie.Need-append-time-requires-7
-append-time-requires-7 c κs = search needs
+append-wake-up-times-requires : tie.Need-append-wake-up-times-requires
+append-wake-up-times-requires c κs = search needs
 
 same-length : tie.Need-same-length
-same-length c = omega (arith, c .before .before .before .before .before .before .before .before .before .before .before .before .before .before .before .before .before .before .before .before .before .before .before .before .before .before .before .before .before .before .before .before .append-time .kept .0, c .before .before .before .before .before .before .before .before .before .before .before .before .before .before .before .before .before .before .before .before .before .before .before .before .before .before .before .append-time2 .kept .0, c .before .before .before .before .before .before .before .before .before .before .before .before .before .before .before .before .before .before .before .before .before .before .append-time3 .kept .0, c .before .before .before .before .before .before .before .before .before .before .before .before .before .before .before .before .before .append-time4 .kept .0, c .before .before .before .before .before .before .before .before .before .before .before .before .append-time5 .kept .0, c .before .before .before .before .before .before .before .append-time6 .kept .0, c .before .before .append-time7 .kept .0)
+same-length c = search needs
 
 returns : tie.Need-returns
 unfolding timesText
 returns c =
-    let f : length (c .before .before .before .before .before .before .before .before .before .before .before .before .before .before .before .before .before .before .before .before .before .before .before .before .before .before .before .before .before .before .before .before .before .before .before .before .args .buffer .now) ≤ largest = omega (arith, c .before .before .before .before .before .before .before .before .before .before .before .before .before .before .before .before .before .before .before .before .before .before .before .before .before .before .before .before .before .before .before .before .before .before .before .before .good .0 .0) in
-    appended-then f (appended-then f (appended-then f (appended-then f (appended-then f (appended-then f (c .before .before .before .before .before .before .before .before .before .before .before .before .before .before .before .before .before .before .before .before .before .before .before .before .before .before .before .before .before .before .before .before .append-time .ensures) (c .before .before .before .before .before .before .before .before .before .before .before .before .before .before .before .before .before .before .before .before .before .before .before .before .before .before .before .append-time2 .ensures)) (c .before .before .before .before .before .before .before .before .before .before .before .before .before .before .before .before .before .before .before .before .before .before .append-time3 .ensures)) (c .before .before .before .before .before .before .before .before .before .before .before .before .before .before .before .before .before .append-time4 .ensures)) (c .before .before .before .before .before .before .before .before .before .before .before .before .append-time5 .ensures)) (c .before .before .before .before .before .before .before .append-time6 .ensures)) (c .before .before .append-time7 .ensures)
+    let s = c .before .before .before .before .before .before .before .before .before .before .before .before .before .before .before .before .before .before .before .before .before .before .before .before .before in
+    let f : length (s .args .buffer .now) ≤ largest = omega (arith, s .good .0 .0) in
+    appended-then f (appended-then f (appended-then f (appended-then f (c .before .before .before .before .before .before .before .before .before .before .before .before .before .before .before .before .before .before .before .before .before .append-time .ensures) (c .before .before .before .before .before .before .before .before .before .before .before .before .before .before .before .before .append-time2 .ensures)) (c .before .before .before .before .before .before .before .before .before .before .before .append-time3 .ensures)) (c .before .before .before .before .before .before .append-time4 .ensures)) (c .before .before .append-wake-up-times .ensures)
 
 pub append-times-spec : {M : Type 1} → statement M
 append-times-spec =
@@ -72,11 +58,6 @@ append-times-spec =
     append-time-requires-3
     slice-aggregate-append-time-4
     append-time-requires-4
-    slice-aggregate-append-time-5
-    append-time-requires-5
-    slice-aggregate-append-time-6
-    append-time-requires-6
-    slice-aggregate-append-time-7
-    append-time-requires-7
+    append-wake-up-times-requires
     same-length
     returns)

@@ -1,10 +1,13 @@
+-- By the way that the request goes. Assumes nothing.
+use mathlib.Core.Path.{ap, _∙_}
+use mathlib.Core.Logic.{⊎-elim}
+use mathlib.Core.List.{List}
+use Rattle.node.specs.declared.Node.{Node}
+use Rattle.bus.specs.declared.Moved.{Moved}
+use Rattle.bus.proofs.Publishing.{answers, unreached, masters}
 use borrow.Author.Needs.{needs}
-use borrow.Author.Tests.{le-ltb, lt-ltb}
 use Rattle.bus.proofs.World.publish.Statement.{statement}
 use Rattle.bus.proofs.World.publish.Tie as tie
-
-reach-all-requires : tie.Need-reach-all-requires
-reach-all-requires c κs = search needs
 
 cast-if2 : tie.Need-cast-if2
 cast-if2 c = search needs
@@ -24,56 +27,51 @@ array-copy-out-asked c = search needs
 request-requires : tie.Need-request-requires
 request-requires c κs = search needs
 
+cast-nodes : tie.Need-cast-nodes
+cast-nodes c = search needs
+
+mul-nodes : tie.Need-mul-nodes
+mul-nodes c = search needs
+
+array-set-from-nodes : tie.Need-array-set-from-nodes
+array-set-from-nodes c = search needs
+
+cast-reached : tie.Need-cast-reached
+cast-reached c = search needs
+
+array-write-reached : tie.Need-array-write-reached
+array-write-reached c = search needs
+
 deliver-requires : tie.Need-deliver-requires
 deliver-requires c κs = search needs
 
-stays-requires : tie.Need-stays-requires
-stays-requires c κs = search needs
-
-stays-requires-2 : tie.Need-stays-requires-2
-stays-requires-2 c κs = search needs
+reach-all-requires : tie.Need-reach-all-requires
+reach-all-requires c κs = search needs
 
 returns : tie.Need-returns
 returns c =
-    rw (
-      c .deliver .ensures,
-      c .before .request .ensures,
-      c .before .before .before .before .before .before .reach-all .ensures,
-      lt-ltb _ _ (c .before .before .before .before .if1 .taken),
-      c .before .before .before .if2 .taken,
-    )
-
-returns-2 : tie.Need-returns-2
-returns-2 c =
-    rw (
-      c .stays .ensures,
-      c .before .before .before .before .reach-all .ensures,
-      lt-ltb _ _ (c .before .before .if1 .taken),
-      c .before .if2 .left,
-    )
-
-returns-3 : tie.Need-returns-3
-returns-3 c =
-    rw (
-      c .stays2 .ensures,
-      c .before .before .before .reach-all .ensures,
-      le-ltb _ _ (c .before .if1 .left),
-    )
+    let a = c .before .before .before .before .before .before .args in
+    let j = c .before .before .if1 in
+    ap (λ (heard : List Node). record { world = record { master = j .told .master; nodes = heard }; refusal = j .told .refusal }) (c .reach-all .ensures)
+    ∙ ⊎-elim (λ x. answers (a .count) (a .row) (a .bus) (a .self) (x .0 .taken) (x .1 .taken) (x .3 .ensures) (x .8 ∙ x .5 .ensures) (x .6) (x .7))
+    (⊎-elim (λ x. unreached (a .count) (a .row) (a .bus) (a .self) (x .4) (x .2) (x .3) (x .0 .taken) (x .1 .left))
+    (λ x. masters (a .count) (a .row) (a .bus) (a .self) (x .3) (x .1) (x .2) (x .0 .left))) (j .came)
 
 pub publish-spec : {M : Type 1} → statement M
 publish-spec =
     tie.close
     (tie.spec
-    reach-all-requires
     cast-if2
     array-read-if2
     cast-asked
     mul-asked
     array-copy-out-asked
     request-requires
+    cast-nodes
+    mul-nodes
+    array-set-from-nodes
+    cast-reached
+    array-write-reached
     deliver-requires
-    stays-requires
-    stays-requires-2
-    returns
-    returns-2
-    returns-3)
+    reach-all-requires
+    returns)

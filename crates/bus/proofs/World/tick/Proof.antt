@@ -1,3 +1,7 @@
+-- By the pulses that the nodes sent. Assumes nothing.
+use mathlib.Core.Path.{sym, _∙_}
+use borrow.Author.Tests.{not-true}
+use Rattle.bus.proofs.Ticking.{quiet-tick}
 use borrow.Author.Needs.{needs}
 use Rattle.bus.proofs.World.tick.Statement.{statement}
 use Rattle.bus.proofs.World.tick.Tie as tie
@@ -11,19 +15,35 @@ is-normal-requires c κs = search needs
 tick-nodes-requires : tie.Need-tick-nodes-requires
 tick-nodes-requires c κs = search needs
 
-spread-requires : tie.Need-spread-requires
-spread-requires c κs = search needs
+any-called-requires : tie.Need-any-called-requires
+any-called-requires c κs = search needs
 
 returns : tie.Need-returns
 returns c =
+    let a = c .before .before .before .before .before .before .before .before .before .args in
+    quiet-tick (a .times) (a .count) (a .bus) (a .self) _ _ _ (c .before .before .before .before .before .before .tick .ensures) (c .before .before .before .before .is-normal .ensures) (c .before .before .before .tick-nodes .ensures)
+    (sym (c .before .any-called .ensures) ∙ not-true _ (c .if1 .taken))
+
+spread-requires : tie.Need-spread-requires
+spread-requires c κs = search needs
+
+returns-2 : tie.Need-returns-2
+returns-2 c =
     rw (
       c .spread .ensures,
-      c .before .before .tick-nodes .ensures,
-      c .before .before .before .is-normal .ensures,
-      c .before .before .before .before .before .tick .ensures,
+      c .before .before .before .before .tick-nodes .ensures,
+      c .before .before .before .before .before .is-normal .ensures,
+      c .before .before .before .before .before .before .before .tick .ensures,
     )
 
 pub tick-spec : {M : Type 1} → statement M
 tick-spec =
     tie.close
-    (tie.spec tick-requires is-normal-requires tick-nodes-requires spread-requires returns)
+    (tie.spec
+    tick-requires
+    is-normal-requires
+    tick-nodes-requires
+    any-called-requires
+    returns
+    spread-requires
+    returns-2)

@@ -1,6 +1,7 @@
 -- By the lines that have ended.
 use Prim.Native.Nat.{ℕ, _-_, _^_, _≤_, _<_}
 use mathlib.Core.Path.{_≡_, refl, ap, _∙_}
+use mathlib.Core.Logic.{⊎-elim}
 use native.Mathlib.Omega.{arith}
 use lib.ListN.{length, take}
 use lib.Seq.{take-all}
@@ -11,7 +12,7 @@ use Rattle.text.proofs.Appends.{appended-as}
 use Rattle.drill_feed.specs.declared.Drill.{Drill}
 use Rattle.drill_feed.specs.declared.Held.{Held}
 use Rattle.drill_feed.specs.Feed.{fed, said, keeps}
-use Rattle.drill_feed.proofs.Feeding.{ends, turn-state, turn-text, stop-state, stop-text, fed-nothing, said-nothing}
+use Rattle.drill_feed.proofs.Feeding.{tells-bad, tells-move, ends, turn-state, turn-text, stop-state, stop-text, fed-nothing, said-nothing}
 use borrow.Author.Needs.{needs}
 use Rattle.drill_feed.proofs.Drill.feed_from.Statement.{statement}
 use Rattle.drill_feed.proofs.Drill.feed_from.Tie as tie
@@ -64,31 +65,51 @@ line-requires c κs = search needs
 wrapping-add-u64-requires : tie.Need-wrapping-add-u64-requires Inv-loop μ-loop
 wrapping-add-u64-requires c κs = search needs
 
-tell-requires : tie.Need-tell-requires Inv-loop μ-loop
-tell-requires c κs = search needs
+enum-told : tie.Need-enum-told Inv-loop μ-loop
+enum-told c = search needs
+
+append-bad-requires : tie.Need-append-bad-requires Inv-loop μ-loop
+append-bad-requires c κs = search needs
+
+enum-known-line : tie.Need-enum-known-line Inv-loop μ-loop
+enum-known-line c = search needs
+
+bus-move-requires : tie.Need-bus-move-requires Inv-loop μ-loop
+bus-move-requires c κs = search needs
+
+act-requires : tie.Need-act-requires Inv-loop μ-loop
+act-requires c κs = search needs
+
+append-move-requires : tie.Need-append-move-requires Inv-loop μ-loop
+append-move-requires c κs = search needs
 
 empty-requires : tie.Need-empty-requires Inv-loop μ-loop
 empty-requires c κs = search needs
 
 add-start : tie.Need-add-start Inv-loop μ-loop
-add-start c = record { fits = omega (arith, c .before .before .before .before .before .before .before .before .if1 .left, c .before .before .before .before .before .before .before .before .before .before .before .before .before .loop .inv .1) }
+add-start c = record { fits = omega (arith, c .before .before .before .before .if1 .left, c .before .before .before .before .before .before .before .before .before .loop .inv .1) }
 
 loop-less : tie.Need-loop-less Inv-loop μ-loop
-loop-less c = omega (arith, c .before .before .before .before .before .before .before .before .if1 .left, c .before .before .before .before .before .before .before .before .before .before .before .line-end .ensures .from)
+loop-less c = omega (arith, c .before .before .before .before .if1 .left, c .before .before .before .before .before .before .before .line-end .ensures .from)
 
 loop-again : tie.Need-loop-again Inv-loop μ-loop
 loop-again c =
-    let b = c .before .before .before .before .before .before .before .before .before .before .before .before .before .loop in
-    let a = c .before .before .before .before .before .before .before .before .before .before .before .before .before .before .before .before .before .before .before .args in
-    let l = c .before .before .before .before .before .before .before .before .before .before .before .line-end .ensures in
+    let b = c .before .before .before .before .before .before .before .before .before .loop in
+    let a = c .before .before .before .before .before .before .before .before .before .before .before .before .before .before .before .args in
+    let end = c .before .before .before .before .before .before .before .line-end in
+    let more = c .before .before .before .before .if1 .left in
+    let held = c .before .before .before .before .before .with in
     let d = drill (a .self .plan) (b .world) (b .lines) (b .held) in
-    let g = ends (keeps d (c .before .before .before .before .before .before .before .before .before .with .result)) (c .before .before .before .before .before .before .before .line .ensures) (c .before .before .before .before .before .before .wrapping-add-u64 .ensures) (c .empty .ensures) (c .before .before .before .before .tell .ensures) in (
-      omega (arith, l .within, c .before .before .before .before .before .before .before .before .if1 .left),
+    let told =
+    ⊎-elim (λ x. tells-bad (x .1 .given .1) (x .6) (x .7) (x .8) (x .3 .ensures) (x .3 .kept .0))
+    (λ x. tells-move (x .1 .given .1) (x .10) (x .11) (x .12) (x .3 .ensures) (x .4 .ensures) (x .7 .ensures) (x .7 .kept .0)) (c .before .match .came) in
+    let g = ends (keeps d (held .result)) (c .before .before .before .line .ensures) (c .before .before .wrapping-add-u64 .ensures) (c .empty .ensures) told in (
+      omega (arith, end .ensures .within, more),
       b .inv .1,
-      omega (arith, c .before .before .before .before .tell .kept .1 .1 .1 .1 .0, b .inv .2),
+      told .size ∙ b .inv .2,
       b .inv .3,
-      turn-state (a .input .now) (b .start) (c .before .before .before .before .before .before .before .before .before .before .before .line-end .result) l (a .self) d (c .before .before .before .before .before .before .before .before .before .with .result) (b .inv .4) (c .before .before .before .before .before .before .before .before .before .with .ensures) (c .before .before .before .before .before .before .before .before .if1 .left) (g .state),
-      turn-text (a .input .now) (b .start) (c .before .before .before .before .before .before .before .before .before .before .before .line-end .result) l (a .self) d (c .before .before .before .before .before .before .before .before .before .with .result) (b .inv .4) (c .before .before .before .before .before .before .before .before .before .with .ensures) (c .before .before .before .before .before .before .before .before .if1 .left) (b .inv .3) (b .inv .5) (g .appended),
+      turn-state (a .input .now) (b .start) (end .result) (end .ensures) (a .self) d (held .result) (b .inv .4) (held .ensures) more (g .state),
+      turn-text (a .input .now) (b .start) (end .result) (end .ensures) (a .self) d (held .result) (b .inv .4) (held .ensures) more (b .inv .3) (b .inv .5) (g .appended),
     )
 
 same-length-2 : tie.Need-same-length-2 Inv-loop μ-loop
@@ -117,7 +138,12 @@ feed-from-spec =
     returns
     line-requires
     wrapping-add-u64-requires
-    tell-requires
+    enum-told
+    append-bad-requires
+    enum-known-line
+    bus-move-requires
+    act-requires
+    append-move-requires
     empty-requires
     add-start
     loop-less
