@@ -13,12 +13,11 @@ show:
 	@rt check show > target/run.log 2>&1 || { cat target/run.log; exit 1; }
 	@cd examples/set-t && ../../target/bin/show
 
-# Layout, the C tests and the comparison with the independent implementation, then proofs, must-fail edits and programs: the last line is
-# the verdict.
+# Layout, proofs, must-fail edits and programs, then the C tests and the comparisons on what was built: the last line is the verdict. The
+# gate's own test first.
 test:
-	rt fmt --check
-	sh tests/c/run.sh
-	rt ci
+	@sh tests/gate/check.sh
+	@sh tests/gate/run.sh rt tests/c/run.sh
 
 # The calls and the drill against straightforward C on the same inputs.
 bench:

@@ -6,6 +6,8 @@
 set -eu
 rt=$1
 c_tests=$2
+# Four at a time, since those of a batch end at different times: on 2 processors faster than two or three.
+export RT_JOBS="${RT_JOBS:-4}"
 
 # rt ci removes target/, so its log waits elsewhere.
 kept=$(mktemp -d)

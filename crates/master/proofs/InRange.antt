@@ -100,6 +100,10 @@ module _ (nodecount window : ℕ) where
       all-intro (holdRightAt nodecount window (allOlder window holds)) 16
       (λ k l. ap (holdRight nodecount window k) (getD-tab 16 (olderAt window holds) k noHold l) ∙ older-right k (getD holds k noHold) (hold-at holds k e l))
 
+-- letting all go leaves nothing held
+all-gone : (m : Master) → letAllGo m .holds ≡ noHolds
+all-gone m = refl
+
 module _ (nodecount : ℕ) (t : Times) (a : TimesFit t) where
   abbrev Kept : Reply → Type 0
   Kept r = Fits nodecount t (r .master)
@@ -112,7 +116,7 @@ module _ (nodecount : ℕ) (t : Times) (a : TimesFit t) where
   let-go-fits k m f = holds-fit (set (m .holds) k noHold) m f (set-right nodecount (t .window) (m .holds) k noHold (f .holds) refl)
 
   let-all-go-fits : (m : Master) → Fits nodecount t m → Fits nodecount t (letAllGo m)
-  let-all-go-fits m f = holds-fit noHolds m f (none-right nodecount (t .window))
+  let-all-go-fits m f = holds-fit _ m f (rw (all-gone m) (none-right nodecount (t .window)))
 
   hold-fits : (k : ℕ) (m : Master) → k < nodecount → Fits nodecount t m → Fits nodecount t (hold k m)
   hold-fits k m l f =
@@ -139,8 +143,8 @@ module _ (nodecount : ℕ) (t : Times) (a : TimesFit t) where
       go : (s : State) → m .state ≡ s → (q : Phase) → m .phase ≡ q → Fits nodecount t (callBackBy q m)
       go s e Phase.Open w = f
       go s e Phase.Withdrawn w = f
-      go State.Normal e Phase.Sending w = phase-fits Phase.Withdrawn m e f
-      go State.Normal e Phase.Closing w = phase-fits Phase.Open m e f
+      go State.Normal e Phase.Sending w = phase-fits _ m e f
+      go State.Normal e Phase.Closing w = phase-fits _ m e f
       go State.Standby e Phase.Sending w = other State.Standby e Phase.Sending w refl refl
       go State.Standby e Phase.Closing w = other State.Standby e Phase.Closing w refl refl
       go State.Sleep e Phase.Sending w = other State.Sleep e Phase.Sending w refl refl
@@ -199,9 +203,9 @@ module _ (nodecount : ℕ) (t : Times) (a : TimesFit t) where
     where
       go : (b : Bool) (s : State) → m .state ≡ s → (q : Phase) → Kept (sendResultBy b s q m)
       go b State.Normal e Phase.Open = f
-      go true State.Normal e Phase.Sending = phase-fits Phase.Closing m e f
-      go false State.Normal e Phase.Sending = phase-fits Phase.Open m e f
-      go b State.Normal e Phase.Withdrawn = phase-fits Phase.Open m e f
+      go true State.Normal e Phase.Sending = phase-fits _ m e f
+      go false State.Normal e Phase.Sending = phase-fits _ m e f
+      go b State.Normal e Phase.Withdrawn = phase-fits _ m e f
       go b State.Normal e Phase.Closing = f
       go b State.Standby e q = f
       go b State.Sleep e q = f
