@@ -21,7 +21,7 @@ trap 'rm -rf "$kept"' EXIT
     status=0
     "$rt" ci 2>&1 || status=$?
     echo "$status" > "$kept/status"
-} | tee "$kept/log" | awk 'NR > 1 { print held; fflush() } { held = $0 }'
+} | tee "$kept/log" | sed -u '$d'
 mkdir -p target
 cp "$kept/log" target/ci.log
 verdict=$(tail -n 1 "$kept/log")
