@@ -92,7 +92,7 @@ uint32_t reference_cxpi_write(const uint8_t *plan, size_t plan_length, uint8_t *
 
 /* The master */
 
-static void pack_master(const reference_master *master, uint8_t *bytes) {
+void reference_pack_master(const reference_master *master, uint8_t *bytes) {
     bytes[0] = master->state;
     bytes[1] = master->phase;
     bytes[2] = master->own_permission;
@@ -124,7 +124,7 @@ uint32_t reference_cxpi_master_power_on(uint8_t *state, size_t state_length) {
         return CXPI_BUFFER_SHORT;
     }
     reference_master_power_on(&master);
-    pack_master(&master, state);
+    reference_pack_master(&master, state);
     return CXPI_DONE;
 }
 
@@ -187,7 +187,7 @@ uint32_t reference_cxpi_master_step(const uint8_t *plan, size_t plan_length, uin
     }
     refusal = reference_master_act(&record, &master, &happened, &given);
     if (refusal == CXPI_DONE || refusal == CXPI_DAMAGED || refusal == CXPI_WRONG_LENGTH) {
-        pack_master(&master, state);
+        reference_pack_master(&master, state);
     }
     if (refusal == CXPI_DONE) {
         answer[0] = given.command;
@@ -198,7 +198,7 @@ uint32_t reference_cxpi_master_step(const uint8_t *plan, size_t plan_length, uin
 
 /* The node */
 
-static void pack_node(const reference_node *node, uint8_t *bytes) {
+void reference_pack_node(const reference_node *node, uint8_t *bytes) {
     bytes[0] = node->state;
     bytes[1] = node->permission;
     bytes[2] = node->error;
@@ -232,7 +232,7 @@ uint32_t reference_cxpi_node_power_on(uint8_t *state, size_t state_length) {
         return CXPI_BUFFER_SHORT;
     }
     reference_node_power_on(&node);
-    pack_node(&node, state);
+    reference_pack_node(&node, state);
     return CXPI_DONE;
 }
 
@@ -290,7 +290,7 @@ uint32_t reference_cxpi_node_step(const uint8_t *plan, size_t plan_length, uint8
     }
     refusal = reference_node_act(&record, node, &machine, &happened, &given);
     if (refusal == CXPI_DONE) {
-        pack_node(&machine, state);
+        reference_pack_node(&machine, state);
         answer[0] = given.command;
         answer[1] = given.permission;
         answer[2] = given.wake;

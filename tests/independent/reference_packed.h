@@ -20,4 +20,8 @@ uint32_t reference_cxpi_node_step(const uint8_t *plan, size_t plan_length, uint8
 void reference_pack_plan(const reference_plan *plan, uint8_t *bytes);
 void reference_unpack_plan(const uint8_t *bytes, reference_plan *plan);
 
+/* Packs a state into CXPI_MASTER_LENGTH or CXPI_NODE_LENGTH bytes. */
+void reference_pack_master(const reference_master *master, uint8_t *bytes);
+void reference_pack_node(const reference_node *node, uint8_t *bytes);
+
 #endif

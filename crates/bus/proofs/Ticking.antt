@@ -1,26 +1,33 @@
--- A tick in which no node sends a pulse.
+-- What a tick gives, with a node's pulse or without.
 use Prim.Native.Nat.{ℕ}
-use mathlib.Core.Path.{_≡_, refl, ap, ap₂, _∙_}
-use mathlib.Core.Bool.{Bool, false}
+use mathlib.Core.Path.{_≡_, refl, ap, ap₂, sym, _∙_}
+use mathlib.Core.Bool.{Bool, false, _&&_}
+use Rattle.folds.specs.Fold.{pick}
 use Rattle.plan.specs.declared.Times.{Times}
 use Rattle.master.specs.declared.Reply.{Reply}
-use Rattle.master.specs.Clock.{clockOn}
+use Rattle.master.specs.Clock.{clockOn, isOff}
 use Rattle.master.specs.Ticks.{tickStep}
 use Rattle.bus.specs.declared.Bus.{Bus}
 use Rattle.bus.specs.declared.Moved.{Moved}
+use Rattle.bus.specs.declared.Passed.{Passed}
 use Rattle.bus.specs.declared.Ticked.{Ticked}
 use Rattle.bus.specs.declared.World.{World}
-use Rattle.bus.specs.Pulses.{anyCalled}
+use Rattle.bus.specs.Pulses.{anyCalled, spread}
 use Rattle.bus.specs.Ticks.{tickNodes, tickAfter, tickMove}
-use Rattle.bus.specs.World.{moved}
+use Rattle.bus.specs.Passed.{ticked}
 
-module _ (t : Times) (count : ℕ) (bus : Bus) (w : World) where
-  as-ticked : (reply : Reply) (nodes : Ticked) → anyCalled (nodes .callers) ≡ false
-      → _≡_ {A = Moved} (record { world = record { master = reply .master; nodes = nodes .nodes }; refusal = reply .refusal }) (moved (tickAfter count bus reply nodes))
-  as-ticked reply nodes g = rw g
+module _ (t : Times) (count : ℕ) (bus : Bus) (w : World) {reply : Reply} {clock off called : Bool} {nodes : Ticked} {passed : Passed}
+    (a : reply ≡ tickStep t (w .master)) (b : clock ≡ clockOn (reply .master)) (c : nodes ≡ tickNodes t clock count (w .nodes))
+    (d : off ≡ isOff (reply .command)) (e : called ≡ anyCalled (nodes .callers)) (f : passed ≡ ticked clock off (called && bus .master)) where
+  abbrev before : World
+  before = record { master = reply .master; nodes = nodes .nodes }
 
-  pub quiet-tick : (reply : Reply) (clock : Bool) (nodes : Ticked) → reply ≡ tickStep t (w .master) → clock ≡ clockOn (reply .master) → nodes ≡ tickNodes t clock count (w .nodes)
-      → anyCalled (nodes .callers) ≡ false → _≡_ {A = Moved} (record { world = record { master = reply .master; nodes = nodes .nodes }; refusal = reply .refusal }) (moved (tickMove t count bus w))
-  quiet-tick reply clock nodes e f g h =
-      as-ticked reply nodes h
-      ∙ ap₂ (λ r n. moved (tickAfter count bus r n)) e (g ∙ ap (λ b. tickNodes t b count (w .nodes)) (f ∙ ap (λ (r : Reply). clockOn (r .master)) e))
+  pub tick-gives : {after : World} → after ≡ spread count (nodes .callers) bus before → _≡_ {A = Moved} (record { world = after; refusal = reply .refusal; passed = passed }) (tickMove t count bus w)
+  tick-gives g = rw (g, f, d, e, b) (ap₂ (tickAfter count bus) a (c ∙ ap (λ x. tickNodes t x count (w .nodes)) (b ∙ ap (λ (r : Reply). clockOn (r .master)) a)))
+
+  -- nobody called
+  pub quiet-tick : called ≡ false → _≡_ {A = Moved} (record { world = before; refusal = reply .refusal; passed = passed }) (tickMove t count bus w)
+  quiet-tick g = tick-gives (alone _ _ (sym e ∙ g))
+    where
+      alone : (x : Bool) (heard : World) → x ≡ false → before ≡ pick x heard before
+      alone x heard h = rw h

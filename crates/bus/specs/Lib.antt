@@ -2,6 +2,7 @@ pub mod Each
 pub mod Messages
 pub mod Moves
 pub mod Owners
+pub mod Passed
 pub mod Pulses
 pub mod Range
 pub mod Resting

@@ -27,10 +27,13 @@ use Rattle.bus.specs.declared.Arrival.{Arrival}
 use Rattle.bus.specs.declared.Delivered.{Delivered}
 use Rattle.bus.specs.declared.Fate.{Fate}
 use Rattle.bus.specs.declared.Message.{Message}
+use Rattle.bus.specs.declared.Moved.{Moved}
+use Rattle.bus.specs.declared.Passed.{Passed}
 use Rattle.bus.specs.declared.World.{World}
 use Rattle.bus.specs.Owners.{ofNode}
 use Rattle.bus.specs.Pulses.{reachAll}
-use Rattle.bus.specs.World.{nodeAt, withMaster, withNodes, Passed, answered, sending, slept, nothing, Outcome, stays}
+use Rattle.bus.specs.Passed.{nothing, answered, sending, slept}
+use Rattle.bus.specs.World.{nodeAt, withMaster, withNodes, stays}
 
 -- "damaged (result not 0, ReqId kept, count still 0 to 3)"
 abbrev pub fateRight : Fate → Bool
@@ -47,78 +50,68 @@ abbrev pub carried : Fate → Row → NodeCommand.Command → Arrival
 carried fate row NodeCommand.Command.Nothing = Arrival.Nothing
 carried fate row NodeCommand.Command.Pulse = Arrival.Nothing
 carried Fate.Whole row (NodeCommand.Command.Send permission wake count) =
-    Arrival.Answer (record { reqid = row .reqid; result = 0; length = row .length; count = count; permission = permission; wake = wake })
+    Arrival.Answer row (record { reqid = row .reqid; result = 0; length = row .length; count = count; permission = permission; wake = wake })
 carried (Fate.Damaged damage) row (NodeCommand.Command.Send permission wake count) =
-    Arrival.Answer
+    Arrival.Answer row
     (record { reqid = row .reqid; result = damage .result; length = damage .length; count = damage .count; permission = damage .permission; wake = damage .wake })
 carried Fate.Lost row (NodeCommand.Command.Send permission wake count) = Arrival.Nothing
 
--- what becomes of a publisher's reply at the master
-pub record Delivery : Type 0 where
-  pub master : Master
-  pub refusal : ℕ
-  pub passed : Passed
-
--- what code returns of it
-abbrev pub delivered : Delivery → Delivered
-delivered d = record { master = d .master; refusal = d .refusal }
-
 -- nothing reaches the master
-abbrev pub unanswered : Master → ℕ → Delivery
+abbrev pub unanswered : Master → ℕ → Delivered
 unanswered m refusal = record { master = m; refusal = refusal; passed = nothing }
 
-abbrev pub answeredBy : Row → Answer → MasterReply.Reply → Delivery
+abbrev pub answeredBy : Row → Answer → MasterReply.Reply → Delivered
 answeredBy row a reply = record { master = reply .master; refusal = reply .refusal; passed = answered row a }
 
-abbrev pub arrive : Row → Master → Arrival → Delivery
-arrive row m Arrival.Nothing = unanswered m 0
-arrive row m (Arrival.Answer a) = answeredBy row a (answerStep (Lookup.Found row) a m)
+abbrev pub arrive : Master → Arrival → Delivered
+arrive m Arrival.Nothing = unanswered m 0
+arrive m (Arrival.Answer row a) = answeredBy row a (answerStep (Lookup.Found row) a m)
 
 -- a publisher's reply goes on to the master: "The refusal .. is the acting or publishing machine's, else the master's"
-abbrev pub deliver : Row → Fate → NodeReply.Reply → Master → Delivery
-deliver row fate reply m = pick (not (eqb (reply .refusal) 0)) (unanswered m (reply .refusal)) (arrive row m (carried fate row (reply .command)))
+abbrev pub deliver : Row → Fate → NodeReply.Reply → Master → Delivered
+deliver row fate reply m = pick (not (eqb (reply .refusal) 0)) (unanswered m (reply .refusal)) (arrive m (carried fate row (reply .command)))
 
 -- with the nodes as they are then
-abbrev pub deliveredIn : List Node → Delivery → Outcome
+abbrev pub deliveredIn : List Node → Delivered → Moved
 deliveredIn nodes d = record { world = record { master = d .master; nodes = nodes }; refusal = d .refusal; passed = d .passed }
 
 -- the publisher's reply to a request that reached it, and the others that it reaches
-abbrev pub requestBy : ℕ → Row → Bus → World → NodeReply.Reply → Outcome
+abbrev pub requestBy : ℕ → Row → Bus → World → NodeReply.Reply → Moved
 requestBy count row bus w reply =
     deliveredIn
     (reachAll (Message.Request (Lookup.Found row)) (set (bus .reached) (row .publisher) false) count (set (w .nodes) (row .publisher) (reply .node)))
     (deliver row (bus .fate) reply (w .master))
 
 -- "A request reaches any set of nodes"; "A master's row .. is heard and brings no answer"
-abbrev pub publish : ℕ → Row → Bus → World → Outcome
+abbrev pub publish : ℕ → Row → Bus → World → Moved
 publish count row bus w =
     pick (ltb (row .publisher) count && getD (bus .reached) (row .publisher) false)
     (requestBy count row bus w (requestStep (row .publisher) (Lookup.Found row) (nodeAt (w .nodes) (row .publisher))))
     (stays (withNodes (reachAll (Message.Request (Lookup.Found row)) (bus .reached) count (w .nodes)) w) 0)
 
 -- "then a ReqId not in the plan gives 12"
-abbrev pub publishFound : ℕ → Bus → World → Lookup → Outcome
+abbrev pub publishFound : ℕ → Bus → World → Lookup → Moved
 publishFound count bus w Lookup.Missing = stays w 12
 publishFound count bus w (Lookup.Found row) = publish count row bus w
 
-abbrev pub judgedMessage : ℕ → World → Outcome → Outcome
+abbrev pub judgedMessage : ℕ → World → Moved → Moved
 judgedMessage refusal w o = pick (not (eqb refusal 0)) (stays w refusal) o
 
-abbrev pub requestMove : Plan → ℕ → ℕ → Bus → World → Outcome
+abbrev pub requestMove : Plan → ℕ → ℕ → Bus → World → Moved
 requestMove p count reqid bus w = judgedMessage (messageRefusal reqid (bus .fate) (w .master .state)) w (publishFound count bus w (findRow p reqid))
 
-abbrev pub sentBy : ℕ → Row → Fate → World → NodeReply.Reply → Outcome
+abbrev pub sentBy : ℕ → Row → Fate → World → NodeReply.Reply → Moved
 sentBy node row fate w reply = deliveredIn (set (w .nodes) node (reply .node)) (deliver row fate reply (w .master))
 
 -- a node's own sending of a row, which no other node hears
-abbrev pub sendRow : ℕ → Bool → Row → Fate → World → Outcome
+abbrev pub sendRow : ℕ → Bool → Row → Fate → World → Moved
 sendRow node polled row fate w = sentBy node row fate w (sendAskStep node polled (Lookup.Found row) (nodeAt (w .nodes) node))
 
-abbrev pub sendAskBy : ℕ → Bool → Fate → World → Lookup → Outcome
+abbrev pub sendAskBy : ℕ → Bool → Fate → World → Lookup → Moved
 sendAskBy node polled fate w Lookup.Missing = stays w 12
 sendAskBy node polled fate w (Lookup.Found row) = sendRow node polled row fate w
 
-abbrev pub sendAskMove : Plan → ℕ → ℕ → ℕ → Bus → World → Outcome
+abbrev pub sendAskMove : Plan → ℕ → ℕ → ℕ → Bus → World → Moved
 sendAskMove p count node reqid bus w =
     ofNode count node w
     (judgedMessage (messageRefusal reqid (bus .fate) (w .master .state)) w (sendAskBy node (isPolled p node) (bus .fate) w (findRow p reqid)))
@@ -130,21 +123,21 @@ sendingBy MasterCommand.Command.ClockOn = nothing
 sendingBy MasterCommand.Command.ClockOff = nothing
 sendingBy MasterCommand.Command.SleepMessage = sending
 
-abbrev pub sleepAskAfter : World → MasterReply.Reply → Outcome
+abbrev pub sleepAskAfter : World → MasterReply.Reply → Moved
 sleepAskAfter w reply = record { world = withMaster (reply .master) w; refusal = reply .refusal; passed = sendingBy (reply .command) }
 
-abbrev pub sleepAskMove : ℕ → World → Outcome
+abbrev pub sleepAskMove : ℕ → World → Moved
 sleepAskMove nodecount w = sleepAskAfter w (sleepAskStep nodecount (w .master))
 
 -- "it then awaits its result and reaches any set of nodes with the result"; "a refused `sent` reaches nobody"
-abbrev pub resultAfter : ℕ → Bus → World → MasterReply.Reply → Outcome
-resultAfter count bus w reply =
+abbrev pub resultAfter : ℕ → Bool → Bus → World → MasterReply.Reply → Moved
+resultAfter count sent bus w reply =
     pick (not (eqb (reply .refusal) 0)) (stays w (reply .refusal))
     (record {
       world = record { master = reply .master; nodes = reachAll Message.SleepMessage (bus .reached) count (w .nodes) };
       refusal = 0;
-      passed = slept (bus .reached);
+      passed = slept sent (bus .reached);
     })
 
-abbrev pub sendResultMove : ℕ → Bool → Bus → World → Outcome
-sendResultMove count sent bus w = resultAfter count bus w (sendResultStep sent (w .master))
+abbrev pub sendResultMove : ℕ → Bool → Bus → World → Moved
+sendResultMove count sent bus w = resultAfter count sent bus w (sendResultStep sent (w .master))

@@ -12,10 +12,10 @@ use Rattle.bus.specs.Messages.{requestMove, sendAskMove, sleepAskMove, s
 use Rattle.bus.specs.Owners.{nodeWakeAsk, masterWakeAsk, nodePermission, masterPermission}
 use Rattle.bus.specs.Range.{worldInRange}
 use Rattle.bus.specs.Ticks.{tickMove}
-use Rattle.bus.specs.World.{nodesUsed, Outcome, moved, stays}
+use Rattle.bus.specs.World.{nodesUsed, stays}
 
 -- "Moves are: a tick; an ask to wake or a permission, a node's or the master's; a request; a node's ask to send; a sleep ask; a send result"
-abbrev pub actBy : Plan → World → Bus → Act → Outcome
+abbrev pub actBy : Plan → World → Bus → Act → Moved
 actBy p w bus Act.Tick = tickMove (p .times) (nodesUsed (p .nodecount)) bus w
 actBy p w bus (Act.NodeWakeAsk node) = nodeWakeAsk (nodesUsed (p .nodecount)) node bus w
 actBy p w bus Act.MasterWakeAsk = masterWakeAsk w
@@ -27,12 +27,12 @@ actBy p w bus Act.SleepAsk = sleepAskMove (p .nodecount) w
 actBy p w bus (Act.SendResult sent) = sendResultMove (nodesUsed (p .nodecount)) sent bus w
 
 -- what a move does, once plan and world are judged
-abbrev pub worldAct : Plan → World → Move → Outcome
+abbrev pub worldAct : Plan → World → Move → Moved
 worldAct p w m = actBy p w (m .bus) (m .act)
 
 -- "plan 4 to 8 first, then 11"
 abbrev pub worldStep : Plan → World → Move → Moved
 worldStep p w m =
     pick (eqb (planRefusal p) 0)
-    (pick (worldInRange (p .nodecount) (p .times) w) (moved (worldAct p w m)) (moved (stays w 11)))
-    (moved (stays w (planRefusal p)))
+    (pick (worldInRange (p .nodecount) (p .times) w) (worldAct p w m) (stays w 11))
+    (stays w (planRefusal p))

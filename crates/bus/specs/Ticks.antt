@@ -10,11 +10,13 @@ use Rattle.master.specs.Clock.{clockOn, isOff}
 use Rattle.master.specs.Ticks as MasterTicks
 use Rattle.bus.specs.declared.Bus.{Bus}
 use Rattle.bus.specs.declared.Callers.{Callers}
+use Rattle.bus.specs.declared.Moved.{Moved}
 use Rattle.bus.specs.declared.Ticked.{Ticked}
 use Rattle.bus.specs.declared.World.{World}
 use Rattle.bus.specs.Each.{eachTo}
 use Rattle.bus.specs.Pulses.{callersTo, anyCalled, spread}
-use Rattle.bus.specs.World.{nodeAt, ticked, Outcome}
+use Rattle.bus.specs.Passed.{ticked}
+use Rattle.bus.specs.World.{nodeAt}
 
 abbrev pub tickedNodes : Times → Bool → ℕ → List Node → List Node
 tickedNodes t clock count nodes = eachTo (λ k n. NodeTicks.tickStep t clock n .node) count nodes
@@ -26,7 +28,7 @@ abbrev pub tickNodes : Times → Bool → ℕ → List Node → Ticked
 tickNodes t clock count nodes = record { nodes = tickedNodes t clock count nodes; callers = tickCallers t clock count nodes }
 
 -- the master's reply to its tick, then the nodes
-abbrev pub tickAfter : ℕ → Bus → Reply → Ticked → Outcome
+abbrev pub tickAfter : ℕ → Bus → Reply → Ticked → Moved
 tickAfter count bus reply nodes =
     record {
       world = spread count (nodes .callers) bus (record { master = reply .master; nodes = nodes .nodes });
@@ -34,6 +36,6 @@ tickAfter count bus reply nodes =
       passed = ticked (clockOn (reply .master)) (isOff (reply .command)) (anyCalled (nodes .callers) && bus .master);
     }
 
-abbrev pub tickMove : Times → ℕ → Bus → World → Outcome
+abbrev pub tickMove : Times → ℕ → Bus → World → Moved
 tickMove t count bus w =
     tickAfter count bus (MasterTicks.tickStep t (w .master)) (tickNodes t (clockOn (MasterTicks.tickStep t (w .master) .master)) count (w .nodes))

@@ -3,16 +3,15 @@ use Prim.Native.Nat.{ℕ, min}
 use mathlib.Core.Bool.{Bool, false}
 use mathlib.Core.List.{List, []}
 use lib.ListN.{getD, set, replicate}
-use Rattle.plan.specs.declared.Row.{Row}
 use Rattle.machine.specs.declared.State.{State}
 use Rattle.node.specs.declared.Delay.{Delay}
 use Rattle.node.specs.declared.Node.{Node}
 use Rattle.node.specs.Changes as NodeChanges
-use Rattle.master.specs.declared.Answer.{Answer}
 use Rattle.master.specs.declared.Master.{Master}
 use Rattle.master.specs.Changes as MasterChanges
 use Rattle.bus.specs.declared.World.{World}
 use Rattle.bus.specs.declared.Moved.{Moved}
+use Rattle.bus.specs.Passed.{nothing}
 
 -- "The first starts from power-on"
 abbrev pub powerOn : World
@@ -50,33 +49,6 @@ withNodes nodes w = record { master = w .master; nodes = nodes }
 abbrev pub withNode : ℕ → Node → World → World
 withNode k n w = withNodes (set (w .nodes) k n) w
 
--- what passed in a move
-pub data Passed : Type 0 where
-  -- a tick: the clock after it, whether it commanded the clock off, whether a pulse then reached the master
-  ticked : Bool → Bool → Bool → Passed
-  -- an ask to wake, and whether it woke the master: its own, or a pulse that reached it
-  asked : Bool → Passed
-  -- the word of the master's application, and of a node's
-  masterPermits : Bool → Passed
-  nodePermits : ℕ → Bool → Passed
-  -- an answer that reached the master, and its row
-  answered : Row → Answer → Passed
-  -- a sleep message's sending: "the move in which its ask is accepted"
-  sending : Passed
-  -- a sleep message with its result, and the nodes it reached
-  slept : List Bool → Passed
-  nothing : Passed
-
--- what a move gives: the machines, the refusal, and what passed
-pub record Outcome : Type 0 where
-  pub world : World
-  pub refusal : ℕ
-  pub passed : Passed
-
--- what code returns of it
-abbrev pub moved : Outcome → Moved
-moved o = record { world = o .world; refusal = o .refusal }
-
 -- nothing passed, and no machine moved
-abbrev pub stays : World → ℕ → Outcome
+abbrev pub stays : World → ℕ → Moved
 stays w refusal = record { world = w; refusal = refusal; passed = nothing }

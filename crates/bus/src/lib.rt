@@ -1,14 +1,16 @@
 // The master and its nodes on a bus: what a move does to them.
 ghost use mathlib.Core.Path.{_≡_};
-ghost use Rattle.bus.specs.World.{powerOn, moved, stays, nodesUsed};
+ghost use Rattle.bus.specs.World.{powerOn, stays, nodesUsed};
 ghost use Rattle.bus.specs.Moves.{worldAct, worldStep};
 use master::Answer;
 use master::Master;
 use node::Node;
 use plan::Lookup;
 use plan::Plan;
+use plan::Row;
 use plan::plan_refusal;
 
+mod facts;
 mod messages;
 mod owners;
 mod pulses;
@@ -73,9 +75,50 @@ pub struct Move {
     pub bus: Bus,
 }
 
+// An application's word on sleeping.
+pub enum Word {
+    Nobody,
+    Master(bool),
+    Node { node: u8, permitted: bool },
+}
+
+// What reaches the master of a node's sending.
+pub enum Arrival {
+    Nothing,
+    Answer { row: Row, answer: Answer },
+}
+
+// What became of a sleep message.
+pub enum SendResult {
+    Unknown,
+    Sent,
+    Failed,
+}
+
+// What passed in a move.
+pub struct Passed {
+    // a tick, the clock as it left it, and whether it commanded the clock off
+    pub tick: bool,
+    pub clock: bool,
+    pub stop: bool,
+    // an ask to wake, a node's or the master's
+    pub asked: bool,
+    // a wake-up pulse reached the master, or its own application asked it to wake
+    pub woken: bool,
+    pub word: Word,
+    pub arrival: Arrival,
+    // a sleep message's ask was accepted
+    pub sending: bool,
+    pub result: SendResult,
+    // the nodes that a sleep message reached
+    pub slept: [bool; 16],
+}
+
+// What a move gives.
 pub struct Moved {
     pub world: World,
     pub refusal: u8,
+    pub passed: Passed,
 }
 
 // The nodes that sent a wake-up pulse in a move.
@@ -99,22 +142,21 @@ pub struct Ticked {
     pub callers: Callers,
 }
 
-// What reaches the master of a node's sending.
-pub enum Arrival {
-    Nothing,
-    Answer(Answer),
-}
-
-// The master after a publisher's reply went on to it.
+// What becomes of a publisher's reply at the master.
 pub struct Delivered {
     pub master: Master,
     pub refusal: u8,
+    pub passed: Passed,
 }
 
 fn stays(world: World, refusal: u8) -> Moved
-    ensures { λ r. ⌜ r ≡ moved (stays world refusal) ⌝ }
+    ensures { λ r. ⌜ r ≡ stays world refusal ⌝ }
 {
-    Moved { world, refusal }
+    Moved {
+        world,
+        refusal,
+        passed: Passed::nothing(),
+    }
 }
 
 fn nodes_used(nodecount: u8) -> u8
@@ -136,7 +178,7 @@ impl World {
 
     // What a move does once plan and world are judged.
     pub fn act(self, plan: Plan, movement: Move) -> Moved
-        ensures { λ r. ⌜ r ≡ moved (worldAct plan self movement) ⌝ }
+        ensures { λ r. ⌜ r ≡ worldAct plan self movement ⌝ }
     {
         let act = movement.act;
         let bus = movement.bus;

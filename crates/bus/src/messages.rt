@@ -1,14 +1,14 @@
 // Requests, answers and the sleep message.
 ghost use mathlib.Core.Path.{_≡_};
 ghost use Prim.Native.Nat.{_≤_, _<_};
-ghost use Rattle.bus.specs.World.{moved};
-ghost use Rattle.bus.specs.Messages.{fateRight, messageRefusal, carried, delivered, deliver, publish, requestMove, sendRow, sendAskBy, sendAskMove, sleepAskMove, sendResultMove};
+ghost use Rattle.bus.specs.Messages.{fateRight, messageRefusal, carried, unanswered, deliver, publish, requestMove, sendRow, sendAskBy, sendAskMove, sendingBy, sleepAskMove, sendResultMove};
 use crate::Arrival;
 use crate::Bus;
 use crate::Delivered;
 use crate::Fate;
 use crate::Message;
 use crate::Moved;
+use crate::Passed;
 use crate::World;
 use crate::pulses::reach_all;
 use crate::stays;
@@ -58,48 +58,73 @@ fn carried(fate: Fate, row: Row, command: Command) -> Arrival
             wake,
             count,
         } => match fate {
-            Fate::Whole => Arrival::Answer(Answer {
-                reqid: row.reqid,
-                result: 0,
-                length: row.length as u16,
-                count,
-                permission,
-                wake,
-            }),
-            Fate::Damaged(damage) => Arrival::Answer(Answer {
-                reqid: row.reqid,
-                result: damage.result,
-                length: damage.length,
-                count: damage.count,
-                permission: damage.permission,
-                wake: damage.wake,
-            }),
+            Fate::Whole => Arrival::Answer {
+                row,
+                answer: Answer {
+                    reqid: row.reqid,
+                    result: 0,
+                    length: row.length as u16,
+                    count,
+                    permission,
+                    wake,
+                },
+            },
+            Fate::Damaged(damage) => Arrival::Answer {
+                row,
+                answer: Answer {
+                    reqid: row.reqid,
+                    result: damage.result,
+                    length: damage.length,
+                    count: damage.count,
+                    permission: damage.permission,
+                    wake: damage.wake,
+                },
+            },
             Fate::Lost => Arrival::Nothing,
         },
     }
 }
 
+fn unanswered(master: Master, refusal: u8) -> Delivered
+    ensures { λ r. ⌜ r ≡ unanswered master refusal ⌝ }
+{
+    Delivered {
+        master,
+        refusal,
+        passed: Passed::nothing(),
+    }
+}
+
 // What a publisher sent goes on to the master.
 fn deliver(master: Master, row: Row, fate: Fate, reply: Reply) -> Delivered
-    ensures { λ r. ⌜ r ≡ delivered (deliver row fate reply master) ⌝ }
+    ensures { λ r. ⌜ r ≡ deliver row fate reply master ⌝ }
 {
     if !(reply.refusal == 0) {
-        return Delivered {
-            master,
-            refusal: reply.refusal,
-        };
+        return unanswered(master, reply.refusal);
     }
     let command = reply.command;
     match carried(fate, row, command) {
-        Arrival::Nothing => Delivered { master, refusal: 0 },
-        Arrival::Answer(answer) => {
-            let told = master.answer(Lookup::Found(row), answer);
+        Arrival::Nothing => unanswered(master, 0),
+        Arrival::Answer { row: of, answer } => {
+            let told = master.answer(Lookup::Found(of), answer);
             let next = told.master;
             Delivered {
                 master: next,
                 refusal: told.refusal,
+                passed: Passed::answered(of, answer),
             }
         }
+    }
+}
+
+fn sending_by(command: master::Command) -> Passed
+    ensures { λ r. ⌜ r ≡ sendingBy command ⌝ }
+{
+    match command {
+        master::Command::Nothing => Passed::nothing(),
+        master::Command::ClockOn => Passed::nothing(),
+        master::Command::ClockOff => Passed::nothing(),
+        master::Command::SleepMessage => Passed::sending(),
     }
 }
 
@@ -107,14 +132,14 @@ impl World {
     // A request of a row reaches the nodes of a set; its publisher, if it is one of them, answers by the one step that it makes.
     fn publish(self, count: u8, row: Row, bus: Bus) -> Moved
         requires { ⌜ count ≤ 16 ⌝ }
-        ensures { λ r. ⌜ r ≡ moved (publish count row bus self) ⌝ }
+        ensures { λ r. ⌜ r ≡ publish count row bus self ⌝ }
     {
         let publisher = row.publisher;
         let fate = bus.fate;
         let mut nodes = self.nodes;
         let mut reached = bus.reached;
         let master = self.master;
-        let mut told = Delivered { master, refusal: 0 };
+        let mut told = unanswered(master, 0);
         if publisher < count {
             if reached[publisher as usize] {
                 let asked = nodes[publisher as usize];
@@ -126,6 +151,7 @@ impl World {
             }
         }
         let after = told.master;
+        let passed = told.passed;
         let heard = reach_all(nodes, count, reached, Message::Request(Lookup::Found(row)));
         Moved {
             world: World {
@@ -133,12 +159,13 @@ impl World {
                 nodes: heard,
             },
             refusal: told.refusal,
+            passed,
         }
     }
 
     pub(crate) fn request(self, plan: Plan, count: u8, reqid: u8, bus: Bus) -> Moved
         requires { ⌜ count ≤ 16 ⌝ }
-        ensures { λ r. ⌜ r ≡ moved (requestMove plan count reqid bus self) ⌝ }
+        ensures { λ r. ⌜ r ≡ requestMove plan count reqid bus self ⌝ }
     {
         let master = self.master;
         let state = master.state;
@@ -156,7 +183,7 @@ impl World {
     // A node's own sending of a row.
     fn send(self, node: u8, polled: bool, row: Row, fate: Fate) -> Moved
         requires { ⌜ node < 16 ⌝ }
-        ensures { λ r. ⌜ r ≡ moved (sendRow node polled row fate self) ⌝ }
+        ensures { λ r. ⌜ r ≡ sendRow node polled row fate self ⌝ }
     {
         let mut nodes = self.nodes;
         let asked = nodes[node as usize];
@@ -166,18 +193,20 @@ impl World {
         let master = self.master;
         let told = deliver(master, row, fate, reply);
         let after = told.master;
+        let passed = told.passed;
         Moved {
             world: World {
                 master: after,
                 nodes,
             },
             refusal: told.refusal,
+            passed,
         }
     }
 
     fn send_found(self, node: u8, polled: bool, row: Lookup, fate: Fate) -> Moved
         requires { ⌜ node < 16 ⌝ }
-        ensures { λ r. ⌜ r ≡ moved (sendAskBy node polled fate self row) ⌝ }
+        ensures { λ r. ⌜ r ≡ sendAskBy node polled fate self row ⌝ }
     {
         match row {
             Lookup::Missing => stays(self, 12),
@@ -187,7 +216,7 @@ impl World {
 
     pub(crate) fn send_ask(self, plan: Plan, count: u8, node: u8, reqid: u8, bus: Bus) -> Moved
         requires { ⌜ count ≤ 16 ⌝ }
-        ensures { λ r. ⌜ r ≡ moved (sendAskMove plan count node reqid bus self) ⌝ }
+        ensures { λ r. ⌜ r ≡ sendAskMove plan count node reqid bus self ⌝ }
     {
         let master = self.master;
         let state = master.state;
@@ -209,23 +238,25 @@ impl World {
     }
 
     pub(crate) fn sleep_ask(self, nodecount: u8) -> Moved
-        ensures { λ r. ⌜ r ≡ moved (sleepAskMove nodecount self) ⌝ }
+        ensures { λ r. ⌜ r ≡ sleepAskMove nodecount self ⌝ }
     {
         let master = self.master;
         let reply = master.sleep_ask(nodecount);
         let next = reply.master;
+        let command = reply.command;
         Moved {
             world: World {
                 master: next,
                 ..self
             },
             refusal: reply.refusal,
+            passed: sending_by(command),
         }
     }
 
     pub(crate) fn send_result(self, count: u8, sent: bool, bus: Bus) -> Moved
         requires { ⌜ count ≤ 16 ⌝ }
-        ensures { λ r. ⌜ r ≡ moved (sendResultMove count sent bus self) ⌝ }
+        ensures { λ r. ⌜ r ≡ sendResultMove count sent bus self ⌝ }
     {
         let master = self.master;
         let nodes = self.nodes;
@@ -241,6 +272,7 @@ impl World {
                 nodes: reach_all(nodes, count, reached, Message::SleepMessage),
             },
             refusal: 0,
+            passed: Passed::slept(sent, reached),
         }
     }
 }

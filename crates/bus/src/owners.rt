@@ -1,19 +1,20 @@
 // Moves of the applications: asks to wake and permissions.
 ghost use mathlib.Core.Path.{_≡_};
 ghost use Prim.Native.Nat.{_≤_};
-ghost use Rattle.bus.specs.World.{moved};
 ghost use Rattle.bus.specs.Owners.{nodeWakeAsk, masterWakeAsk, nodePermission, masterPermission};
 use crate::Bus;
 use crate::Callers;
 use crate::Moved;
+use crate::Passed;
 use crate::World;
+use crate::pulses::any_called;
 use crate::pulses::with_caller;
 use crate::stays;
 
 impl World {
     pub(crate) fn node_wake_ask(self, count: u8, node: u8, bus: Bus) -> Moved
         requires { ⌜ count ≤ 16 ⌝ }
-        ensures { λ r. ⌜ r ≡ moved (nodeWakeAsk count node bus self) ⌝ }
+        ensures { λ r. ⌜ r ≡ nodeWakeAsk count node bus self ⌝ }
     {
         if node < count {
             let mut nodes = self.nodes;
@@ -27,6 +28,7 @@ impl World {
             Moved {
                 world: world.spread(count, callers, bus),
                 refusal: reply.refusal,
+                passed: Passed::asked(any_called(callers) & bus.master),
             }
         } else {
             stays(self, 11)
@@ -34,7 +36,7 @@ impl World {
     }
 
     pub(crate) fn master_wake_ask(self) -> Moved
-        ensures { λ r. ⌜ r ≡ moved (masterWakeAsk self) ⌝ }
+        ensures { λ r. ⌜ r ≡ masterWakeAsk self ⌝ }
     {
         let master = self.master;
         let reply = master.wake_up();
@@ -45,12 +47,13 @@ impl World {
                 ..self
             },
             refusal: reply.refusal,
+            passed: Passed::asked(true),
         }
     }
 
     pub(crate) fn node_permission(self, count: u8, node: u8, permitted: bool) -> Moved
         requires { ⌜ count ≤ 16 ⌝ }
-        ensures { λ r. ⌜ r ≡ moved (nodePermission count node permitted self) ⌝ }
+        ensures { λ r. ⌜ r ≡ nodePermission count node permitted self ⌝ }
     {
         if node < count {
             let mut nodes = self.nodes;
@@ -61,6 +64,7 @@ impl World {
             Moved {
                 world: World { nodes, ..self },
                 refusal: reply.refusal,
+                passed: Passed::node_permits(node, permitted),
             }
         } else {
             stays(self, 11)
@@ -68,7 +72,7 @@ impl World {
     }
 
     pub(crate) fn master_permission(self, permitted: bool) -> Moved
-        ensures { λ r. ⌜ r ≡ moved (masterPermission permitted self) ⌝ }
+        ensures { λ r. ⌜ r ≡ masterPermission permitted self ⌝ }
     {
         let master = self.master;
         let reply = master.permit(permitted);
@@ -79,6 +83,7 @@ impl World {
                 ..self
             },
             refusal: reply.refusal,
+            passed: Passed::master_permits(permitted),
         }
     }
 }

@@ -2,17 +2,19 @@
 ghost use mathlib.Core.Path.{_≡_};
 ghost use Prim.Native.Nat.{_≤_};
 ghost use Rattle.machine.specs.State.{isNormal};
-ghost use Rattle.bus.specs.World.{moved};
+ghost use Rattle.master.specs.Clock.{isOff};
 ghost use Rattle.bus.specs.Resting.{rests};
 ghost use Rattle.bus.specs.Ticks.{tickNodes, tickMove};
 use crate::Bus;
 use crate::Callers;
 use crate::Moved;
+use crate::Passed;
 use crate::Ticked;
 use crate::World;
 use crate::pulses::any_called;
 use crate::pulses::with_caller;
 use machine::State;
+use master::Command;
 use node::Delay;
 use node::Node;
 use plan::Times;
@@ -24,6 +26,17 @@ pub(crate) fn is_normal(state: State) -> bool
         State::Normal => true,
         State::Standby => false,
         State::Sleep => false,
+    }
+}
+
+fn is_off(command: Command) -> bool
+    ensures { λ r. ⌜ r ≡ isOff command ⌝ }
+{
+    match command {
+        Command::Nothing => false,
+        Command::ClockOn => false,
+        Command::ClockOff => true,
+        Command::SleepMessage => false,
     }
 }
 
@@ -69,30 +82,36 @@ fn tick_nodes(mut nodes: [Node; 16], count: u8, times: Times, clock: bool) -> Ti
 impl World {
     pub(crate) fn tick(self, count: u8, times: Times, bus: Bus) -> Moved
         requires { ⌜ count ≤ 16 ⌝ }
-        ensures { λ r. ⌜ r ≡ moved (tickMove times count bus self) ⌝ }
+        ensures { λ r. ⌜ r ≡ tickMove times count bus self ⌝ }
     {
         let master = self.master;
         let before = self.nodes;
         let reply = master.tick(times);
         let next = reply.master;
         let state = next.state;
-        let ticked = tick_nodes(before, count, times, is_normal(state));
+        let command = reply.command;
+        let clock = is_normal(state);
+        let ticked = tick_nodes(before, count, times, clock);
         let nodes = ticked.nodes;
         let callers = ticked.callers;
         let world = World {
             master: next,
             nodes,
         };
+        let called = any_called(callers);
+        let passed = Passed::ticked(clock, is_off(command), called & bus.master);
         // most ticks: the world goes on without the copies that a pulse costs
-        if !any_called(callers) {
+        if !called {
             return Moved {
                 world,
                 refusal: reply.refusal,
+                passed,
             };
         }
         Moved {
             world: world.spread(count, callers, bus),
             refusal: reply.refusal,
+            passed,
         }
     }
 }

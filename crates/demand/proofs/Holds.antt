@@ -47,12 +47,16 @@ use Rattle.bus.specs.declared.Fate.{Fate}
 use Rattle.bus.specs.declared.Message.{Message}
 use Rattle.bus.specs.declared.Move.{Move}
 use Rattle.bus.specs.declared.World.{World}
-use Rattle.bus.specs.Messages.{fateRight, messageRefusal, judgedMessage, carried, Delivery, arrive, deliver, deliveredIn, publishFound, sendAskBy, sendingBy}
+use Rattle.bus.specs.Messages.{fateRight, messageRefusal, judgedMessage, carried, arrive, deliver, deliveredIn, publishFound, sendAskBy, sendingBy}
 use Rattle.bus.specs.Moves.{actBy, worldAct}
 use Rattle.bus.specs.Owners.{ofNode, wakeAskBy, permissionBy}
 use Rattle.bus.specs.Pulses.{withCaller, anyCalled, reachAll, spread}
 use Rattle.bus.specs.Ticks.{tickedNodes, tickCallers}
-use Rattle.bus.specs.World.{nodesUsed, nodeAt, Passed, ticked, asked, answered, Outcome, stays}
+use Rattle.bus.specs.declared.Delivered.{Delivered}
+use Rattle.bus.specs.declared.Moved.{Moved}
+use Rattle.bus.specs.declared.Passed.{Passed}
+use Rattle.bus.specs.Passed.{ticked, asked, answered}
+use Rattle.bus.specs.World.{nodesUsed, nodeAt, stays}
 use Rattle.demand.specs.Demand3.{settlingTime, Settles, Wakes, Demand3}
 use Rattle.demand.specs.Run.{Run, then, runFrom, run, start}
 use Rattle.demand.specs.Words.{nodePermitted}
@@ -98,14 +102,14 @@ message-moves reqid fate state =
     P refusal = refusal ≡ 0 → Moves reqid fate state
 
 module _ (p : Plan) (ok : planRefusal p ≡ 0) (past : List Passed) where
-  abbrev Kept : Outcome → Type 0
+  abbrev Kept : Moved → Type 0
   Kept o = AsTold p (o .world) (o .passed ∷ past)
 
   stays-told : (w : World) (number : ℕ) → AsTold p w past → Kept (stays w number)
   stays-told w number v = record { nodes = record { size = v .nodes .size; each = v .nodes .each }; master = Masters.nothing-told p ok past (w .master) (v .master) }
 
   -- 11, or a node of the plan
-  of-node : (node : ℕ) (w : World) (o : Outcome) → AsTold p w past → (node < p .nodecount → Kept o) → Kept (ofNode (nodesUsed (p .nodecount)) node w o)
+  of-node : (node : ℕ) (w : World) (o : Moved) → AsTold p w past → (node < p .nodecount → Kept o) → Kept (ofNode (nodesUsed (p .nodecount)) node w o)
   of-node node w o v h = by-test Kept (ltb node (nodesUsed (p .nodecount))) (λ l. h (omega (arith, ltb-true node (nodesUsed (p .nodecount)) l))) (λ l. stays-told w 11 v)
 
   -- in Normal an answer of a plan's row is judged by that row
@@ -115,7 +119,7 @@ module _ (p : Plan) (ok : planRefusal p ≡ 0) (past : List Passed) where
 
     arrives : (nodes : List Node) (a : Answer) → AllTold p nodes past → row .publisher < p .nodecount → a .reqid ≡ row .reqid → a .count < 4
         → (isWhole row a ≡ true → a .permission ≡ true → nodePermitted (row .publisher) past ≡ true)
-        → Kept (deliveredIn nodes (arrive row (w .master) (Arrival.Answer a)))
+        → Kept (deliveredIn nodes (arrive (w .master) (Arrival.Answer row a)))
     arrives nodes a told l q c honest =
         record {
           nodes = record { size = told .size; each = told .each };
@@ -143,7 +147,7 @@ module _ (p : Plan) (ok : planRefusal p ≡ 0) (past : List Passed) where
       quietly : (number : ℕ) → Kept (stays Then number)
       quietly number = stays-told Then number (record { nodes = told; master = v .master })
 
-      sends : (f : Fate) → fateRight f ≡ true → (c : NodeCommand.Command) → Tells n ⊥ (ownRow me (Lookup.Found row) n) c → Kept (deliveredIn nodes (arrive row (w .master) (carried f row c)))
+      sends : (f : Fate) → fateRight f ≡ true → (c : NodeCommand.Command) → Tells n ⊥ (ownRow me (Lookup.Found row) n) c → Kept (deliveredIn nodes (arrive (w .master) (carried f row c)))
       sends f r NodeCommand.Command.Nothing t = quietly 0
       sends f r NodeCommand.Command.Pulse t = quietly 0
       sends Fate.Whole r (NodeCommand.Command.Send permission wake count) t =
@@ -161,11 +165,11 @@ module _ (p : Plan) (ok : planRefusal p ≡ 0) (past : List Passed) where
       sends Fate.Lost r (NodeCommand.Command.Send permission wake count) t = quietly 0
 
       delivers : (reply : NodeReply.Reply) → Tells n ⊥ (ownRow me (Lookup.Found row) n) (reply .command) → Kept (deliveredIn nodes (deliver row fate reply (w .master)))
-      delivers reply t = by-test (λ (d : Delivery). Kept (deliveredIn nodes d)) (not (eqb (reply .refusal) 0)) (λ e. quietly (reply .refusal)) (λ e. sends fate (moves .right) (reply .command) t)
+      delivers reply t = by-test (λ (d : Delivered). Kept (deliveredIn nodes d)) (not (eqb (reply .refusal) 0)) (λ e. quietly (reply .refusal)) (λ e. sends fate (moves .right) (reply .command) t)
 
   module _ (w : World) (v : AsTold p w past) where
     -- 15 and 16, or a message that moves
-    judged-told : (reqid : ℕ) (fate : Fate) (o : Outcome) → (Moves reqid fate (w .master .state) → Kept o)
+    judged-told : (reqid : ℕ) (fate : Fate) (o : Moved) → (Moves reqid fate (w .master .state) → Kept o)
         → Kept (judgedMessage (messageRefusal reqid fate (w .master .state)) w o)
     judged-told reqid fate o h =
         by-test Kept (not (eqb (messageRefusal reqid fate (w .master .state)) 0)) (λ e. stays-told w (messageRefusal reqid fate (w .master .state)) v)
@@ -246,7 +250,7 @@ module _ (p : Plan) (ok : planRefusal p ≡ 0) (past : List Passed) where
     move-told bus (Act.SendResult sent) =
         by-test Kept (not (eqb (sendResultStep sent (w .master) .refusal) 0)) (λ e. stays-told w (sendResultStep sent (w .master) .refusal) v)
         (λ e. record {
-          nodes = Nodes.slept-told p ok (bus .reached) (w .nodes) past (v .nodes);
+          nodes = Nodes.slept-told p ok sent (bus .reached) (w .nodes) past (v .nodes);
           master = Masters.result-told p ok past sent (bus .reached) (w .master) (v .master);
         })
 

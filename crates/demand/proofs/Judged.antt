@@ -21,7 +21,8 @@ use Rattle.bus.specs.declared.Move.{Move}
 use Rattle.bus.specs.declared.World.{World}
 use Rattle.bus.specs.Moves.{worldAct, worldStep}
 use Rattle.bus.specs.Range.{nodeInRange, worldInRange}
-use Rattle.bus.specs.World.{nodesUsed, nodeAt, Passed, moved, stays}
+use Rattle.bus.specs.declared.Passed.{Passed}
+use Rattle.bus.specs.World.{nodesUsed, nodeAt, stays}
 use Rattle.demand.specs.Run.{run}
 use Rattle.demand.proofs.Holds.{AsTold, run-told}
 
@@ -43,10 +44,10 @@ module _ (p : Plan) (ok : planRefusal p ≡ 0) where
           let used : i < p .nodecount = omega arith in
           NodeRange.in-range (p .times) (nodeAt (w .nodes) i) (v .nodes .each i used .fits)
 
-  pub run-judged : (moves : List Move) (m : Move) → worldStep p (run p moves .world) m ≡ moved (worldAct p (run p moves .world) m)
+  pub run-judged : (moves : List Move) (m : Move) → worldStep p (run p moves .world) m ≡ worldAct p (run p moves .world) m
   run-judged moves m = judged (run p moves .world) (in-range (run p moves .world) (run p moves .past) (run-told p ok moves))
     where
-      judged : (w : World) → worldInRange (p .nodecount) (p .times) w ≡ true → worldStep p w m ≡ moved (worldAct p w m)
+      judged : (w : World) → worldInRange (p .nodecount) (p .times) w ≡ true → worldStep p w m ≡ worldAct p w m
       judged w e =
-          ap (λ (b : Bool). pick b (pick (worldInRange (p .nodecount) (p .times) w) (moved (worldAct p w m)) (moved (stays w 11))) (moved (stays w (planRefusal p)))) (eq-eqb (planRefusal p) 0 ok)
-          ∙ ap (λ (b : Bool). pick b (moved (worldAct p w m)) (moved (stays w 11))) e
+          ap (λ (b : Bool). pick b (pick (worldInRange (p .nodecount) (p .times) w) (worldAct p w m) (stays w 11)) (stays w (planRefusal p))) (eq-eqb (planRefusal p) 0 ok)
+          ∙ ap (λ (b : Bool). pick b (worldAct p w m) (stays w 11)) e

@@ -1,7 +1,7 @@
 -- The master of a run: what it holds and has under way is as the past tells, after every move.
 use Prim.Native.Nat.{ℕ, _≤_, _<_}
 use mathlib.Core.Path.{_≡_, refl, sym, ap, subst, _∙_}
-use mathlib.Core.Bool.{Bool, true, false}
+use mathlib.Core.Bool.{Bool, true, false, _&&_, or-false}
 use mathlib.Core.List.{List, [], _∷_, _++_}
 use native.Mathlib.Omega.{arith}
 use borrow.Author.Tests.{ne-eqb}
@@ -24,7 +24,8 @@ use Rattle.master.specs.Waking.{wakeUpStep, permissionStep}
 use Rattle.master.proofs.InRange.{Fits, fits, power-on-fits, act-fits}
 use Rattle.master.proofs.InRun.{InRun, run-power-on, run-still, run-wake-up, run-tick, run-stops, run-result, run-ask, run-permission, run-answer, run-sending}
 use Rattle.bus.specs.Messages.{sendingBy}
-use Rattle.bus.specs.World.{Passed, ticked, asked, masterPermits, nodePermits, answered, sending, slept, nothing}
+use Rattle.bus.specs.declared.Passed.{Passed}
+use Rattle.bus.specs.Passed.{ticked, asked, masterPermits, nodePermits, answered, sending, slept, nothing}
 use Rattle.demand.specs.Demand3.{Given, Agreed, StopsAgreed}
 use Rattle.demand.specs.Words.{every, none, masterSaid, masterPermitted, nodePermitted, isAnswerOf, isDamaged, isRefusing, trulyGiven, isWakeUp, isSending, isStop, ticksIn}
 use Rattle.demand.proofs.Ticks.{plus}
@@ -118,7 +119,7 @@ record Neutral (e : Passed) : Type 0 where
   unanswered : (i : ℕ) → isAnswerOf i e ≡ false
   untimed : (k : ℕ) → plus e k ≡ k
   unstopped : isStop e ≡ false
-  unsaid : (b : Bool) → masterSaid e b ≡ b
+  unsaid : (b : Bool) → masterSaid (e .word) b ≡ b
 
 neutral-nothing : Neutral nothing
 neutral-nothing = record { unsent = refl; unwoken = refl; unrefused = refl; undamaged = refl; unanswered = λ i. refl; untimed = λ k. refl; unstopped = refl; unsaid = λ b. refl }
@@ -181,13 +182,13 @@ module _ (p : Plan) (ok : planRefusal p ≡ 0) (past : List Passed) where
         stops = (λ h. no-way h, v .stops);
       }
 
-  pub result-told : (sent : Bool) (reached : List Bool) (m : Master) → MasterTold p m past → MasterTold p (sendResultStep sent m .master) (slept reached ∷ past)
+  pub result-told : (sent : Bool) (reached : List Bool) (m : Master) → MasterTold p m past → MasterTold p (sendResultStep sent m .master) (slept sent reached ∷ past)
   unfolding Stops
   result-told sent reached m v =
       record {
         run =
-            run-result (p .nodecount) (few p ok) (p .times) Now (Next (slept reached)) (Agreed p past) (Agreed p (slept reached ∷ past)) (masterPermitted past) m sent
-            (keep (slept reached) (λ i. refl) refl (λ k. refl)) (agreed-later p past (slept reached) refl refl refl refl) (v .run);
+            run-result (p .nodecount) (few p ok) (p .times) Now (Next (slept sent reached)) (Agreed p past) (Agreed p (slept sent reached ∷ past)) (masterPermitted past) m sent
+            (keep (slept sent reached) (λ i. refl) refl (λ k. refl)) (agreed-later p past (slept sent reached) refl refl refl refl) (v .run);
         fits = act-fits p ok m (Event.SendResult sent) refl (v .fits);
         stops = (λ h. no-way h, v .stops);
       }
@@ -264,7 +265,7 @@ module _ (p : Plan) (ok : planRefusal p ≡ 0) (past : List Passed) where
       record {
         run =
             run-answer (p .nodecount) (few p ok) (p .times) Now (Next (answered row a)) (Agreed p past) (Agreed p (answered row a ∷ past)) (masterPermitted past) m row a on l
-            (λ i k h n w r. recent-later p i k past (answered row a) (ne-eqb (row .publisher) i (λ e. n (sym e))) w r)
+            (λ i k h n w r. recent-later p i k past (answered row a) (ne-eqb (row .publisher) i (λ e. n (sym e))) (or-false (isWhole row a && a .wake) ∙ w) r)
             (λ whole permits unwoken. (
               record {
                 since = [];

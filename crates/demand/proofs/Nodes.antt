@@ -29,10 +29,12 @@ use Rattle.bus.specs.declared.World.{World}
 use Rattle.bus.specs.Each.{eachTo}
 use Rattle.bus.specs.Pulses.{anyCalled, otherCalled, receiveIf, reachAll, spread}
 use Rattle.bus.specs.Ticks.{tickedNodes, tickCallers}
-use Rattle.bus.specs.World.{powerOn, nodesUsed, noNode, nodeAt, Passed, ticked, asked, nodePermits, slept}
+use Rattle.bus.specs.declared.Passed.{Passed}
+use Rattle.bus.specs.Passed.{ticked, asked, nodePermits, resultOf, slept}
+use Rattle.bus.specs.World.{powerOn, nodesUsed, noNode, nodeAt}
 use Rattle.bus.proofs.EachOne.{each-length, each-get}
 use Rattle.bus.proofs.WhoCalls.{callers-some}
-use Rattle.demand.specs.Words.{nodePermitted}
+use Rattle.demand.specs.Words.{nodePermitted, isResult}
 use Rattle.demand.proofs.Ticks.{onFor, offFor}
 
 -- node i as the past tells
@@ -144,11 +146,15 @@ module _ (p : Plan) (ok : planRefusal p ≡ 0) where
   send-ask-told k polled row nodes past v l =
       one k (sendAskStep k polled row (nodeAt nodes k) .node) nodes past past v l (run-send-ask (p .times) _ _ _ (nodeAt nodes k) (v .each k l) times k polled row) (λ i h e s. s)
 
-  pub slept-told : (reached : List Bool) (nodes : List Node) (past : List Passed) → AllTold p nodes past
-      → AllTold p (reachAll Message.SleepMessage reached (nodesUsed (p .nodecount)) nodes) (slept reached ∷ past)
-  slept-told reached nodes past v =
-      over (λ k n. receiveIf (getD reached k false) Message.SleepMessage k n) nodes past (slept reached ∷ past) v (λ i l s. go i (getD reached i false) s)
+  pub slept-told : (sent : Bool) (reached : List Bool) (nodes : List Node) (past : List Passed) → AllTold p nodes past
+      → AllTold p (reachAll Message.SleepMessage reached (nodesUsed (p .nodecount)) nodes) (slept sent reached ∷ past)
+  slept-told sent reached nodes past v =
+      over (λ k n. receiveIf (getD reached k false) Message.SleepMessage k n) nodes past (slept sent reached ∷ past) v (λ i l s. rw (taken sent) (go i (getD reached i false) s))
     where
+      taken : (b : Bool) → isResult (resultOf b) ≡ true
+      taken true = refl
+      taken false = refl
+
       go : (i : ℕ) (b : Bool) → Told p i past (nodeAt nodes i)
           → InRun (p .times) (nodePermitted i past) (pick b 0 (onFor i past)) (offFor past) (receiveIf b Message.SleepMessage i (nodeAt nodes i))
       go i true s = run-sleep-message (p .times) _ _ _ (nodeAt nodes i) s times

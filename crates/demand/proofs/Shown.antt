@@ -9,7 +9,9 @@ use Rattle.plan.specs.Rules.{timesRight, entryRight, differs, nodeRight, nodesR
 use Rattle.node.specs.declared.Node.{Node}
 use Rattle.master.specs.Sleeping.{notHeld}
 use Rattle.master.specs.Ticks.{allOlder}
-use Rattle.bus.specs.World.{nodeAt, Passed, nothing}
+use Rattle.bus.specs.declared.Passed.{Passed}
+use Rattle.bus.specs.Passed.{nothing}
+use Rattle.bus.specs.World.{nodeAt}
 use Rattle.demand.specs.Demand3.{settlingTime}
 use Rattle.demand.specs.Examples.{plan, awake, ticks, stopping, calling, failing}
 use Rattle.demand.specs.Run.{run}

@@ -1,27 +1,19 @@
 -- The ticks at the end of a past, counted move by move.
 use Prim.Native.Nat.{ℕ, suc, _≤_}
 use mathlib.Core.Path.{_≡_, sym, subst}
-use mathlib.Core.Bool.{Bool, true, false, not}
+use mathlib.Core.Bool.{Bool, true, false, not, _||_}
 use mathlib.Core.List.{List, [], _∷_, _++_}
-use lib.ListN.{getD}
 use native.Mathlib.Omega.{arith}
 use Rattle.folds.specs.Fold.{pick}
 use Rattle.folds.proofs.AllAny.{and-l, and-r}
 use Rattle.folds.proofs.Choices.{no-way}
-use Rattle.bus.specs.World.{Passed, ticked, asked, masterPermits, nodePermits, answered, sending, slept, nothing}
+use Rattle.bus.specs.declared.Passed.{Passed}
 use Rattle.demand.specs.Demand3.{ClockFor}
-use Rattle.demand.specs.Words.{every, none, onTick, ticksIn, leavesOn, leavesOff, isAsk, reaches}
+use Rattle.demand.specs.Words.{every, none, ticksIn, leavesOn, leavesOff, isAsk, reaches}
 
 -- after each of which the clock was on, none of them before a sleep message that reached node i
 abbrev onStep : ℕ → Passed → ℕ → ℕ
-onStep i (ticked clock stop pulse) k = pick clock (suc k) 0
-onStep i (asked wakes) k = k
-onStep i (masterPermits word) k = k
-onStep i (nodePermits node word) k = k
-onStep i (answered row a) k = k
-onStep i sending k = k
-onStep i (slept nodes) k = pick (getD nodes i false) 0 k
-onStep i nothing k = k
+onStep i e k = pick (reaches i e) 0 (pick (e .tick) (pick (e .clock) (suc k) 0) k)
 
 abbrev pub onFor : ℕ → List Passed → ℕ
 onFor i [] = 0
@@ -29,14 +21,7 @@ onFor i (e ∷ past) = onStep i e (onFor i past)
 
 -- after each of which the clock was off, none of them before an ask to wake
 abbrev offStep : Passed → ℕ → ℕ
-offStep (ticked clock stop pulse) k = pick clock 0 (suc k)
-offStep (asked wakes) k = 0
-offStep (masterPermits word) k = k
-offStep (nodePermits node word) k = k
-offStep (answered row a) k = k
-offStep sending k = k
-offStep (slept nodes) k = k
-offStep nothing k = k
+offStep e k = pick (isAsk e) 0 (pick (e .tick) (pick (e .clock) 0 (suc k)) k)
 
 abbrev pub offFor : List Passed → ℕ
 offFor [] = 0
@@ -44,33 +29,25 @@ offFor (e ∷ past) = offStep e (offFor past)
 
 -- a tick more
 abbrev pub plus : Passed → ℕ → ℕ
-plus e k = onTick (λ clock stop. suc k) k e
+plus e k = pick (e .tick) (suc k) k
 
 on-entry : (i : ℕ) (e : Passed) (k j : ℕ) → leavesOn e ≡ true → not (reaches i e) ≡ true → k ≤ j → plus e k ≤ onStep i e j
-on-entry i (ticked true stop pulse) k j c r l = omega arith
-on-entry i (ticked false stop pulse) k j c r l = no-way c
-on-entry i (asked wakes) k j c r l = l
-on-entry i (masterPermits word) k j c r l = l
-on-entry i (nodePermits node word) k j c r l = l
-on-entry i (answered row a) k j c r l = l
-on-entry i sending k j c r l = l
-on-entry i (slept nodes) k j c r l = go (getD nodes i false) r
+on-entry i e k j c r l = go (reaches i e) (e .tick) (e .clock) c r
   where
-    go : (b : Bool) → not b ≡ true → k ≤ pick b 0 j
-    go true q = no-way q
-    go false q = l
-on-entry i nothing k j c r l = l
+    go : (reached tick clock : Bool) → (not tick || clock) ≡ true → not reached ≡ true → pick tick (suc k) k ≤ pick reached 0 (pick tick (pick clock (suc j) 0) j)
+    go true tick clock c r = no-way r
+    go false true true c r = omega arith
+    go false true false c r = no-way c
+    go false false clock c r = l
 
 off-entry : (e : Passed) (k j : ℕ) → leavesOff e ≡ true → not (isAsk e) ≡ true → k ≤ j → plus e k ≤ offStep e j
-off-entry (ticked true stop pulse) k j c r l = no-way c
-off-entry (ticked false stop pulse) k j c r l = omega arith
-off-entry (asked wakes) k j c r l = no-way r
-off-entry (masterPermits word) k j c r l = l
-off-entry (nodePermits node word) k j c r l = l
-off-entry (answered row a) k j c r l = l
-off-entry sending k j c r l = l
-off-entry (slept nodes) k j c r l = l
-off-entry nothing k j c r l = l
+off-entry e k j c r l = go (e .asked) (e .tick) (e .clock) c r
+  where
+    go : (asks tick clock : Bool) → (not tick || not clock) ≡ true → not asks ≡ true → pick tick (suc k) k ≤ pick asks 0 (pick tick (pick clock 0 (suc j)) j)
+    go true tick clock c r = no-way r
+    go false true true c r = no-way c
+    go false true false c r = omega arith
+    go false false clock c r = l
 
 on-ticks : (i : ℕ) (recent earlier : List Passed) → every leavesOn recent ≡ true → none (reaches i) recent ≡ true → ticksIn recent ≤ onFor i (recent ++ earlier)
 on-ticks i [] earlier c r = omega arith

@@ -12,7 +12,9 @@ use Rattle.node.specs.declared.Node.{Node}
 use Rattle.master.specs.declared.Answer.{Answer}
 use Rattle.master.specs.Answers.{isWhole}
 use Rattle.bus.specs.declared.Move.{Move}
-use Rattle.bus.specs.World.{nodeAt, Passed, answered, sending}
+use Rattle.bus.specs.declared.Passed.{Passed}
+use Rattle.bus.specs.Passed.{answered, sending}
+use Rattle.bus.specs.World.{nodeAt}
 use Rattle.demand.specs.Run.{run}
 use Rattle.demand.specs.Words.{every, none, masterPermitted, isAnswerOf, isDamaged, isRefusing, trulyGiven, isWakeUp, isSending, isStop, ticksIn, leavesOn, leavesOff, isAsk, reaches}
 

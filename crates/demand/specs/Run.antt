@@ -4,7 +4,9 @@ use Rattle.plan.specs.declared.Plan.{Plan}
 use Rattle.bus.specs.declared.Move.{Move}
 use Rattle.bus.specs.declared.World.{World}
 use Rattle.bus.specs.Moves.{worldAct}
-use Rattle.bus.specs.World.{powerOn, Passed, Outcome}
+use Rattle.bus.specs.declared.Moved.{Moved}
+use Rattle.bus.specs.declared.Passed.{Passed}
+use Rattle.bus.specs.World.{powerOn}
 
 -- the machines after some moves, and what passed in each, the latest first: the past grows at its head as the list runs
 pub record Run : Type 0 where
@@ -15,7 +17,7 @@ pub record Run : Type 0 where
 abbrev pub start : Run
 start = record { world = powerOn; past = [] }
 
-abbrev pub then : Run → Outcome → Run
+abbrev pub then : Run → Moved → Run
 then r o = record { world = o .world; past = o .passed ∷ r .past }
 
 -- "each other from the states that the one before left, refused or not"

@@ -13,7 +13,6 @@ use Rattle.plan.specs.declared.Plan.{Plan}
 use Rattle.bus.specs.declared.Move.{Move}
 use Rattle.bus.specs.declared.Moved.{Moved}
 use Rattle.bus.specs.declared.World.{World}
-use Rattle.bus.specs.World.{moved}
 use Rattle.bus.specs.Moves.{worldAct}
 use Rattle.text.specs.Text.{Appended, Shown, largest}
 use Rattle.text.proofs.Appends.{appended-none, appended-then, appended-as}
@@ -37,11 +36,11 @@ module _ {plan : Plan} {w w′ : World} {number at q r : ℕ} {line : Line} {l l
   tells-bad e f g h a k = record { after = rw (e, g); text = rw (e, f, h) a; size = rw f k }
 
   pub tells-move : {told : DrillMove} {m : Move} {o : Moved} → line ≡ Line.Move told → l′ ≡ x → w′ ≡ o .world → r ≡ q
-      → m ≡ moveOf told → o ≡ moved (worldAct plan w m) → Appended at (moveLine number (o .world) (plan .nodecount) (o .refusal)) l x q → length x ≡ length l
+      → m ≡ moveOf told → o ≡ worldAct plan w m → Appended at (moveLine number (o .world) (plan .nodecount) (o .refusal)) l x q → length x ≡ length l
       → Tells plan w number line at l l′ w′ r
   unfolding lineMoved
   tells-move {told = told} {o = o} e f g h b c a k =
-      let z : o ≡ lineMoved plan w told = c ∙ ap (λ m. moved (worldAct plan w m)) b in
+      let z : o ≡ lineMoved plan w told = c ∙ ap (worldAct plan w) b in
       record {
         after = rw e (g ∙ ap (λ (y : Moved). y .world) z);
         text = rw (e, f, h) (appended-as (ap (λ (y : Moved). moveLine number (y .world) (plan .nodecount) (y .refusal)) z) a);

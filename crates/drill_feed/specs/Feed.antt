@@ -8,7 +8,7 @@ use Rattle.folds.specs.Fold.{pick}
 use Rattle.plan.specs.declared.Plan.{Plan}
 use Rattle.bus.specs.declared.World.{World}
 use Rattle.bus.specs.declared.Moved.{Moved}
-use Rattle.bus.specs.World.{powerOn, moved}
+use Rattle.bus.specs.World.{powerOn}
 use Rattle.bus.specs.Moves.{worldAct}
 use Rattle.text.specs.Text.{Appended, Shown}
 use Rattle.drill_line.specs.declared.DrillMove.{DrillMove}
@@ -23,7 +23,7 @@ use Rattle.drill_feed.specs.Moves.{moveOf}
 
 -- what a move of the drill gives
 unfoldable pub lineMoved : Plan → World → DrillMove → Moved
-lineMoved plan world told = moved (worldAct plan world (moveOf told))
+lineMoved plan world told = worldAct plan world (moveOf told)
 
 -- the world after a line: "Any other line .. counts", and moves nothing
 abbrev pub worldAfter : Plan → World → Line → World

@@ -9,7 +9,7 @@ use Rattle.bus.specs.declared.Move.{Move}
 use Rattle.bus.specs.declared.Moved.{Moved}
 use Rattle.bus.specs.declared.World.{World}
 use Rattle.bus.specs.Moves.{worldAct}
-use Rattle.bus.specs.World.{powerOn, moved}
+use Rattle.bus.specs.World.{powerOn}
 use Rattle.demand.specs.Run.{Run, then, runFrom, run, start}
 use Rattle.runs.specs.Encoding.{halved}
 
@@ -30,7 +30,7 @@ unfolding tab
 run-none p f world e = e
 
 -- the world after one move more
-pub run-more : (p : Plan) (f : ℕ → Move) (k : ℕ) (world : World) (m : Move) (r : Moved) → world ≡ run p (tab k f) .world → m ≡ f k → r ≡ moved (worldAct p world m)
+pub run-more : (p : Plan) (f : ℕ → Move) (k : ℕ) (world : World) (m : Move) (r : Moved) → world ≡ run p (tab k f) .world → m ≡ f k → r ≡ worldAct p world m
     → r .world ≡ run p (tab (k + 1) f) .world
 run-more p f k world m r e q h =
     ap (λ (x : Moved). x .world) h ∙ ap (λ (x : World). worldAct p x m .world) e ∙ ap (λ (x : Move). worldAct p (run p (tab k f) .world) x .world) q

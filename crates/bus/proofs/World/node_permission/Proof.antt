@@ -18,14 +18,18 @@ mul-nodes c = search needs
 array-set-from-nodes : tie.Need-array-set-from-nodes
 array-set-from-nodes c = search needs
 
+node-permits-requires : tie.Need-node-permits-requires
+node-permits-requires c κs = search needs
+
 stays-requires : tie.Need-stays-requires
 stays-requires c κs = search needs
 
 returns : tie.Need-returns
 returns c =
     rw (
-      c .before .before .permit .ensures,
-      lt-ltb _ _ (c .before .before .before .before .before .if1 .taken),
+      c .node-permits .ensures,
+      c .before .before .before .permit .ensures,
+      lt-ltb _ _ (c .before .before .before .before .before .before .if1 .taken),
     )
 
 returns-2 : tie.Need-returns-2
@@ -44,6 +48,7 @@ node-permission-spec =
     permit-requires
     mul-nodes
     array-set-from-nodes
+    node-permits-requires
     stays-requires
     returns
     returns-2)

@@ -24,16 +24,24 @@ array-set-from-nodes c = search needs
 spread-requires : tie.Need-spread-requires
 spread-requires c κs = search needs
 
+any-called-requires : tie.Need-any-called-requires
+any-called-requires c κs = search needs
+
+asked-requires : tie.Need-asked-requires
+asked-requires c κs = search needs
+
 stays-requires : tie.Need-stays-requires
 stays-requires c κs = search needs
 
 returns : tie.Need-returns
 returns c =
     rw (
-      c .spread .ensures,
-      c .before .before .before .with-caller .ensures,
-      c .before .before .before .before .wake-ask .ensures,
-      lt-ltb _ _ (c .before .before .before .before .before .before .before .if1 .taken),
+      c .asked2 .ensures,
+      c .before .before .any-called .ensures,
+      c .before .before .before .spread .ensures,
+      c .before .before .before .before .before .before .with-caller .ensures,
+      c .before .before .before .before .before .before .before .wake-ask .ensures,
+      lt-ltb _ _ (c .before .before .before .before .before .before .before .before .before .before .if1 .taken),
     )
 
 returns-2 : tie.Need-returns-2
@@ -54,6 +62,8 @@ node-wake-ask-spec =
     mul-nodes
     array-set-from-nodes
     spread-requires
+    any-called-requires
+    asked-requires
     stays-requires
     returns
     returns-2)

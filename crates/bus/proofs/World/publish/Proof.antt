@@ -3,11 +3,13 @@ use mathlib.Core.Path.{ap, _∙_}
 use mathlib.Core.Logic.{⊎-elim}
 use mathlib.Core.List.{List}
 use Rattle.node.specs.declared.Node.{Node}
-use Rattle.bus.specs.declared.Moved.{Moved}
 use Rattle.bus.proofs.Publishing.{answers, unreached, masters}
 use borrow.Author.Needs.{needs}
 use Rattle.bus.proofs.World.publish.Statement.{statement}
 use Rattle.bus.proofs.World.publish.Tie as tie
+
+unanswered-requires : tie.Need-unanswered-requires
+unanswered-requires c κs = search needs
 
 cast-if2 : tie.Need-cast-if2
 cast-if2 c = search needs
@@ -50,17 +52,19 @@ reach-all-requires c κs = search needs
 
 returns : tie.Need-returns
 returns c =
-    let a = c .before .before .before .before .before .before .args in
-    let j = c .before .before .if1 in
-    ap (λ (heard : List Node). record { world = record { master = j .told .master; nodes = heard }; refusal = j .told .refusal }) (c .reach-all .ensures)
+    let a = c .before .before .before .before .before .before .before .before .args in
+    let j = c .before .before .before .if1 in
+    let none = c .before .before .before .before .unanswered .ensures in
+    ap (λ (heard : List Node). record { world = record { master = j .told .master; nodes = heard }; refusal = j .told .refusal; passed = j .told .passed }) (c .reach-all .ensures)
     ∙ ⊎-elim (λ x. answers (a .count) (a .row) (a .bus) (a .self) (x .0 .taken) (x .1 .taken) (x .3 .ensures) (x .8 ∙ x .5 .ensures) (x .6) (x .7))
-    (⊎-elim (λ x. unreached (a .count) (a .row) (a .bus) (a .self) (x .4) (x .2) (x .3) (x .0 .taken) (x .1 .left))
-    (λ x. masters (a .count) (a .row) (a .bus) (a .self) (x .3) (x .1) (x .2) (x .0 .left))) (j .came)
+    (⊎-elim (λ x. unreached (a .count) (a .row) (a .bus) (a .self) (x .4 ∙ none) (x .2) (x .3) (x .0 .taken) (x .1 .left))
+    (λ x. masters (a .count) (a .row) (a .bus) (a .self) (x .3 ∙ none) (x .1) (x .2) (x .0 .left))) (j .came)
 
 pub publish-spec : {M : Type 1} → statement M
 publish-spec =
     tie.close
     (tie.spec
+    unanswered-requires
     cast-if2
     array-read-if2
     cast-asked

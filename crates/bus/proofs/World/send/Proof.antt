@@ -23,8 +23,8 @@ deliver-requires c κs = search needs
 returns : tie.Need-returns
 returns c =
     rw (
-      c .before .deliver .ensures,
-      c .before .before .before .before .send-ask .ensures,
+      c .before .before .deliver .ensures,
+      c .before .before .before .before .before .send-ask .ensures,
     )
 
 pub send-spec : {M : Type 1} → statement M

@@ -19,14 +19,25 @@ returns c =
 reach-all-requires : tie.Need-reach-all-requires
 reach-all-requires c κs = search needs
 
+slept-requires : tie.Need-slept-requires
+slept-requires c κs = search needs
+
 returns-2 : tie.Need-returns-2
 returns-2 c =
     rw (
-      c .reach-all .ensures,
-      ← c .before .before .before .before .before .send-result .ensures,
-      c .before .before .before .if1 .left,
+      c .slept .ensures,
+      c .before .reach-all .ensures,
+      ← c .before .before .before .before .before .before .send-result .ensures,
+      c .before .before .before .before .if1 .left,
     )
 
 pub send-result-spec : {M : Type 1} → statement M
 send-result-spec =
-    tie.close (tie.spec send-result-requires stays-requires returns reach-all-requires returns-2)
+    tie.close
+    (tie.spec
+    send-result-requires
+    stays-requires
+    returns
+    reach-all-requires
+    slept-requires
+    returns-2)

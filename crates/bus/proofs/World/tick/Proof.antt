@@ -1,7 +1,6 @@
 -- By the pulses that the nodes sent. Assumes nothing.
-use mathlib.Core.Path.{sym, _∙_}
 use borrow.Author.Tests.{not-true}
-use Rattle.bus.proofs.Ticking.{quiet-tick}
+use Rattle.bus.proofs.Ticking.{tick-gives, quiet-tick}
 use borrow.Author.Needs.{needs}
 use Rattle.bus.proofs.World.tick.Statement.{statement}
 use Rattle.bus.proofs.World.tick.Tie as tie
@@ -18,23 +17,20 @@ tick-nodes-requires c κs = search needs
 any-called-requires : tie.Need-any-called-requires
 any-called-requires c κs = search needs
 
+is-off-requires : tie.Need-is-off-requires
+is-off-requires c κs = search needs
+
+ticked-requires : tie.Need-ticked-requires
+ticked-requires c κs = search needs
+
 returns : tie.Need-returns
-returns c =
-    let a = c .before .before .before .before .before .before .before .before .before .args in
-    quiet-tick (a .times) (a .count) (a .bus) (a .self) _ _ _ (c .before .before .before .before .before .before .tick .ensures) (c .before .before .before .before .is-normal .ensures) (c .before .before .before .tick-nodes .ensures)
-    (sym (c .before .any-called .ensures) ∙ not-true _ (c .if1 .taken))
+returns c = let a = c .before .before .before .before .before .before .before .before .before .before .before .before .args in quiet-tick (a .times) (a .count) (a .bus) (a .self) (c .before .before .before .before .before .before .before .before .before .tick .ensures) (c .before .before .before .before .before .before .before .is-normal .ensures) (c .before .before .before .before .before .before .tick-nodes .ensures) (c .before .before .before .is-off .ensures) (c .before .before .before .before .any-called .ensures) (c .before .ticked .ensures) (not-true _ (c .if1 .taken))
 
 spread-requires : tie.Need-spread-requires
 spread-requires c κs = search needs
 
 returns-2 : tie.Need-returns-2
-returns-2 c =
-    rw (
-      c .spread .ensures,
-      c .before .before .before .before .tick-nodes .ensures,
-      c .before .before .before .before .before .is-normal .ensures,
-      c .before .before .before .before .before .before .before .tick .ensures,
-    )
+returns-2 c = let a = c .before .before .before .before .before .before .before .before .before .before .before .before .before .args in tick-gives (a .times) (a .count) (a .bus) (a .self) (c .before .before .before .before .before .before .before .before .before .before .tick .ensures) (c .before .before .before .before .before .before .before .before .is-normal .ensures) (c .before .before .before .before .before .before .before .tick-nodes .ensures) (c .before .before .before .before .is-off .ensures) (c .before .before .before .before .before .any-called .ensures) (c .before .before .ticked .ensures) (c .spread .ensures)
 
 pub tick-spec : {M : Type 1} → statement M
 tick-spec =
@@ -44,6 +40,8 @@ tick-spec =
     is-normal-requires
     tick-nodes-requires
     any-called-requires
+    is-off-requires
+    ticked-requires
     returns
     spread-requires
     returns-2)
