@@ -5,6 +5,10 @@
 # REPLAY prints lines as replay.c, STATES writes frames as replay_states.c; - leaves one out. Both run where plan.set is, with the moves on
 # standard input.
 set -eu
+if [ $# -lt 2 ] || [ "$1 $2" = '- -' ]; then
+    sed -n '/^# Run/,/^[^#]/s/^# //p' "$0"
+    exit 2
+fi
 
 # The path of a program from anywhere.
 path_of() {
@@ -34,8 +38,12 @@ build reference_replay "$here/replay.c" "$here/run.c"
 build reference_states "$here/replay_states.c" "$here/run.c" "$here/reference_packed.c"
 cd "$work"
 
-# Names the field of a frame that byte $1 of the frames, from 1, belongs to.
+# Names the field that byte $1 of the frames, from 1, belongs to.
 field() {
+    if [ -z "$1" ]; then
+        cat log
+        return
+    fi
     at=$((($1 - 1) % frame))
     printf 'record %d, ' $((($1 - 1) / frame + 1))
     if [ $at -eq 0 ]; then
@@ -72,7 +80,7 @@ compare_frames() {
     elif [ "$(wc -c < frames)" -ne $((moves * frame)) ]; then
         differs "$(wc -c < frames) bytes of $moves frames"
     elif ! ./reference_states < moves | cmp - frames > log 2>&1; then
-        differs "$(field "$(sed 's/.*differ: [a-z]* \([0-9]*\),.*/\1/' log)")"
+        differs "$(field "$(sed -n 's/.*differ: [a-z]* \([0-9]*\),.*/\1/p' log)")"
     fi
 }
 
@@ -88,10 +96,11 @@ while [ $seed -lt "$plans" ]; do
     fi
 done
 
-case $replay$states in
--/*) what='every field of every machine' ;;
-/*-) what='every line' ;;
-*) what='every line and every field of every machine' ;;
-esac
+what='every line and every field of every machine'
+if [ "$replay" = - ]; then
+    what='every field of every machine'
+elif [ "$states" = - ]; then
+    what='every line'
+fi
 echo "replay: $((plans * moves)) moves over $plans plans, $what: $differences differences"
 [ $differences -eq 0 ]

@@ -1,6 +1,10 @@
+mod ClockShown
+mod DarkShown
 pub mod Holds
 pub mod Judged
 pub mod Masters
 pub mod Nodes
-pub mod Shown
+mod PlansShown
 pub mod Ticks
+mod UpShown
+mod WordsShown

@@ -61,17 +61,29 @@ pub record ClockFor (left : Passed → Bool) (n : ℕ) (past : List Passed) : Ty
 abbrev pub settlingTime : Times → ℕ
 settlingTime t = max (t .quiet) (max (2 * t .recovery) (t .recovery + t .space))
 
--- (b) off for the settling time, and nobody asked to wake since the first of its ticks: each node sleeps or shows its network error
-abbrev pub Settles : Plan → List Passed → List Node → Type 0
-Settles p past nodes =
-    (off : ClockFor leavesOff (settlingTime (p .times)) past) → none isAsk (off .recent) ≡ true
+-- off for n ticks, and nobody asked to wake since the first of them: each node sleeps or shows its network error
+abbrev pub SettlesAfter : ℕ → Plan → List Passed → List Node → Type 0
+SettlesAfter n p past nodes =
+    (off : ClockFor leavesOff n past) → none isAsk (off .recent) ≡ true
     → (i : ℕ) → i < p .nodecount → (nodeAt nodes i .state ≡ State.Sleep) ⊎ (nodeAt nodes i .error ≡ true)
 
--- (c) on for S + 2 ticks, and no sleep message reached node i since the first of them: it is Normal without error
-abbrev pub Wakes : Plan → List Passed → List Node → Type 0
-Wakes p past nodes =
-    (on : ClockFor leavesOn (p .times .sleep + 2) past) (i : ℕ) → i < p .nodecount → none (reaches i) (on .recent) ≡ true
+-- (b) so it is after the settling time
+abbrev pub Settles : Plan → List Passed → List Node → Type 0
+Settles p past nodes = SettlesAfter (settlingTime (p .times)) p past nodes
+
+-- on for n ticks, and no sleep message reached node i since the first of them: it is Normal without error
+abbrev pub WakesAfter : ℕ → Plan → List Passed → List Node → Type 0
+WakesAfter n p past nodes =
+    (on : ClockFor leavesOn n past) (i : ℕ) → i < p .nodecount → none (reaches i) (on .recent) ≡ true
     → (nodeAt nodes i .state ≡ State.Normal) × (nodeAt nodes i .error ≡ false)
+
+-- "S + 2": a node may still have S ticks before it sleeps, and is Normal at the second tick after that
+abbrev pub wakingTime : Times → ℕ
+wakingTime t = t .sleep + 2
+
+-- (c) so it is after that time
+abbrev pub Wakes : Plan → List Passed → List Node → Type 0
+Wakes p past nodes = WakesAfter (wakingTime (p .times)) p past nodes
 
 pub record Demand3 (p : Plan) (moves : List Move) : Type 0 where
   pub stops : StopsAgreed p (run p moves .past)

@@ -1,0 +1,139 @@
+-- Each word of demand 3 on a computed list on which it is true, and on one a move or a tick away on which it is not.
+use Prim.Native.Nat.{ℕ}
+use mathlib.Core.Path.{_≡_, refl}
+use mathlib.Core.Bool.{Bool, true, false}
+use mathlib.Core.List.{List, [], _∷_, _++_}
+use Rattle.folds.specs.Fold.{anyTo, firstTo, tab}
+use Rattle.plan.specs.Find.{hasReqid, rowAmong, findRow}
+use Rattle.master.specs.Sleeping.{notHeld}
+use Rattle.master.specs.Ticks.{allOlder}
+use Rattle.bus.specs.declared.Act.{Act}
+use Rattle.bus.specs.declared.Bus.{Bus}
+use Rattle.bus.specs.declared.Fate.{Fate}
+use Rattle.bus.specs.declared.Move.{Move}
+use Rattle.bus.specs.declared.Passed.{Passed}
+use Rattle.bus.specs.Passed.{nothing}
+use Rattle.demand.specs.Examples.{plan, lossless, deaf, does, ticks, permitting, answering, asking, result, stopping, damaged, calling, unreached, waking}
+use Rattle.demand.specs.Run.{run}
+use Rattle.demand.specs.Words.{every, none, masterPermitted, nodePermitted, isAnswerOf, isDamaged, isRefusing, isWakeUp, isSending, isStop, ticksIn, leavesOn, leavesOff, isAsk, reaches}
+
+-- what passed in the last move of a list, under the first plan
+abbrev last : List Move → Passed
+last moves = go (run plan moves .past)
+  where
+    go : List Passed → Passed
+    go [] = nothing
+    go (e ∷ past) = e
+
+abbrev past : List Move → List Passed
+past moves = run plan moves .past
+
+-- "Permitted": the last word counts, and before any it is no; a node's word is that node's
+permits :
+    (masterPermitted (past permitting) ≡ true)
+    × (masterPermitted (past (does (Act.MasterPermission true) ∷ does (Act.MasterPermission false) ∷ [])) ≡ false)
+    × (masterPermitted (past (does (Act.NodePermission 0 true) ∷ [])) ≡ false)
+    × (masterPermitted [] ≡ false)
+    × (nodePermitted 0 (past (does (Act.NodePermission 0 true) ∷ [])) ≡ true)
+    × (nodePermitted 1 (past (does (Act.NodePermission 0 true) ∷ [])) ≡ false)
+    × (nodePermitted 0 (past (does (Act.NodePermission 0 true) ∷ does (Act.NodePermission 0 false) ∷ [])) ≡ false)
+    × (nodePermitted 0 (past (does (Act.MasterPermission true) ∷ [])) ≡ false)
+unfolding findRow rowAmong hasReqid firstTo anyTo notHeld allOlder tab
+permits = (refl, refl, refl, refl, refl, refl, refl, refl)
+
+-- an answer of a node, "damaged" or "refusing" or neither
+answers :
+    (isAnswerOf 1 (last answering) ≡ true)
+    × (isAnswerOf 0 (last answering) ≡ false)
+    × (isAnswerOf 1 (last permitting) ≡ false)
+    × (isDamaged (last (answering ++ (damaged ∷ []))) ≡ true)
+    × (isDamaged (last answering) ≡ false)
+    × (isDamaged (last permitting) ≡ false)
+    × (isRefusing (last (answering ++ (does (Act.NodePermission 1 false) ∷ does (Act.Request 2) ∷ []))) ≡ true)
+    × (isRefusing (last answering) ≡ false)
+    × (isRefusing (last (answering ++ (damaged ∷ []))) ≡ false)
+    × (isRefusing (last permitting) ≡ false)
+unfolding findRow rowAmong hasReqid firstTo anyTo notHeld allOlder tab
+answers = (refl, refl, refl, refl, refl, refl, refl, refl, refl, refl)
+
+-- "Wake-up": a pulse that reached the master, in a tick too, its own ask, a whole answer with the wake bit; and no other
+wakes :
+    (isWakeUp (last (does (Act.NodeWakeAsk 0) ∷ [])) ≡ true)
+    × (isWakeUp (last (calling 0)) ≡ false)
+    × (isWakeUp (last (calling 1 ++ ticks 1 lossless)) ≡ true)
+    × (isWakeUp (last (calling 2)) ≡ false)
+    × (isWakeUp (last (does Act.MasterWakeAsk ∷ [])) ≡ true)
+    × (isWakeUp (last (permitting ++ (does (Act.Request 1) ∷ []))) ≡ true)
+    × (isWakeUp (last (permitting ++ (does (Act.Request 1) ∷ does (Act.Request 1) ∷ []))) ≡ false)
+    × (isWakeUp (last permitting) ≡ false)
+    × (isWakeUp (last asking) ≡ false)
+    × (isWakeUp (last (answering ++ (damaged ∷ []))) ≡ false)
+unfolding findRow rowAmong hasReqid firstTo anyTo notHeld allOlder tab
+wakes = (refl, refl, refl, refl, refl, refl, refl, refl, refl, refl)
+
+-- a sending is the move in which the sleep ask is accepted
+sends :
+    (isSending (last asking) ≡ true)
+    × (isSending (last (permitting ++ (does Act.SleepAsk ∷ []))) ≡ false)
+    × (isSending (last (asking ++ (result true true ∷ []))) ≡ false)
+    × (isSending (last answering) ≡ false)
+unfolding findRow rowAmong hasReqid firstTo anyTo notHeld allOlder tab
+sends = (refl, refl, refl, refl)
+
+-- "Stop: the tick that commands the clock off"
+stops :
+    (isStop (last stopping) ≡ true)
+    × (isStop (last (asking ++ (result true true ∷ ticks 1 lossless))) ≡ false)
+    × (isStop (last (stopping ++ ticks 1 lossless)) ≡ false)
+unfolding findRow rowAmong hasReqid firstTo anyTo notHeld allOlder tab
+stops = (refl, refl, refl)
+
+-- the clock as a tick left it; the tick that switches it counts
+clocks :
+    (leavesOff (last stopping) ≡ true)
+    × (leavesOn (last stopping) ≡ false)
+    × (leavesOff (last (asking ++ (result true true ∷ ticks 1 lossless))) ≡ false)
+    × (leavesOff (last (stopping ++ ticks 1 lossless)) ≡ true)
+    × (leavesOn (last (waking 1)) ≡ true)
+    × (leavesOff (last (waking 1)) ≡ false)
+    × (leavesOn (last (ticks 1 lossless)) ≡ false)
+    × (leavesOn (last (waking 0)) ≡ true)
+    × (leavesOff (last (waking 0)) ≡ true)
+unfolding findRow rowAmong hasReqid firstTo anyTo notHeld allOlder tab
+clocks = (refl, refl, refl, refl, refl, refl, refl, refl, refl)
+
+-- asks to wake, heard or not, a node's or the master's; and no other move
+asks :
+    (isAsk (last (does (Act.NodeWakeAsk 0) ∷ [])) ≡ true)
+    × (isAsk (last (calling 0)) ≡ true)
+    × (isAsk (last (does Act.MasterWakeAsk ∷ [])) ≡ true)
+    × (isAsk (last (does (Act.NodePermission 0 true) ∷ [])) ≡ false)
+    × (isAsk (last (does (Act.MasterPermission true) ∷ [])) ≡ false)
+    × (isAsk (last asking) ≡ false)
+    × (isAsk (last (asking ++ (result true true ∷ []))) ≡ false)
+    × (isAsk (last (calling 2)) ≡ false)
+    × (isAsk (last answering) ≡ false)
+unfolding findRow rowAmong hasReqid firstTo anyTo notHeld allOlder tab
+asks = (refl, refl, refl, refl, refl, refl, refl, refl, refl)
+
+-- nodes that a sleep message reached: none without it, and none of a refused result
+reached :
+    (reaches 1 (last (asking ++ (result true true ∷ []))) ≡ true)
+    × (reaches 1 (last (asking ++ (result false true ∷ []))) ≡ true)
+    × (reaches 1 (last (asking ++ (result true false ∷ []))) ≡ false)
+    × (reaches 1 (last asking) ≡ false)
+    × (reaches 1 (last (answering ++ (result true true ∷ []))) ≡ false)
+    × (reaches 16 (last (asking ++ (result true true ∷ []))) ≡ false)
+unfolding findRow rowAmong hasReqid firstTo anyTo notHeld allOlder tab
+reached = (refl, refl, refl, refl, refl, refl)
+
+-- ticks, and tests of every move and of none
+counted :
+    (ticksIn (past stopping) ≡ 3)
+    × (ticksIn (past asking) ≡ 1)
+    × (every leavesOn (past asking) ≡ true)
+    × (every leavesOn (past stopping) ≡ false)
+    × (none isStop (past asking) ≡ true)
+    × (none isStop (past stopping) ≡ false)
+unfolding findRow rowAmong hasReqid firstTo anyTo notHeld allOlder tab
+counted = (refl, refl, refl, refl, refl, refl)
