@@ -1,6 +1,7 @@
 -- Laws of a line's end, and of bytes that come in pieces.
 use Prim.Native.Nat.{ℕ, suc, _+_, _*_, _-_, _≤_, _<_}
 use mathlib.Core.Path.{_≡_, refl, ap, ap₂, sym, _∙_}
+use mathlib.Core.Bool.{Bool}
 use mathlib.Core.List.{List, [], _∷_, _++_, append-assoc, append-nil}
 use lib.Dec.{eqb}
 use lib.ListN.{length, getD, take, drop, length-append, length-take}
@@ -10,19 +11,20 @@ use native.Mathlib.Numerals.{add-one}
 use borrow.Author.Tests.{eq-eqb, ne-eqb}
 use Rattle.folds.proofs.Choices.{by-test}
 use Rattle.plan.specs.declared.Plan.{Plan}
+use Rattle.bus.specs.declared.Act.{Act}
+use Rattle.bus.specs.declared.Fate.{Fate}
 use Rattle.bus.specs.declared.Move.{Move}
 use Rattle.bus.specs.declared.Moved.{Moved}
 use Rattle.bus.specs.declared.World.{World}
 use Rattle.bus.specs.Moves.{worldAct}
 use Rattle.text.specs.Text.{Appended, Shown, largest}
 use Rattle.text.proofs.Appends.{appended-none, appended-then, appended-as}
-use Rattle.drill_line.specs.declared.DrillMove.{DrillMove}
 use Rattle.drill_line.specs.declared.Line.{Line}
+use Rattle.drill_line.specs.Parse.{onDrillBus}
 use Rattle.drill_text.specs.Lines.{moveLine, badLine}
 use Rattle.drill_text.proofs.Lines.{move-short, bad-short}
 use Rattle.drill_feed.specs.declared.Drill.{Drill}
 use Rattle.drill_feed.specs.declared.Held.{Held}
-use Rattle.drill_feed.specs.Moves.{moveOf}
 use Rattle.drill_feed.specs.Feed.{next, lineMoved, worldAfter, lineText, emptyHeld, holdByte, holdAll, heldLine, ended, lineSaid, keeps, byteFed, byteSaid, fed, said, lastSaid, LineEnd, Gives}
 
 -- a line told: the world w′ after it, and the buffer l′ that was l
@@ -35,12 +37,12 @@ module _ {plan : Plan} {w w′ : World} {number at q r : ℕ} {line : Line} {l l
   pub tells-bad : line ≡ Line.Bad → l′ ≡ x → w′ ≡ w → r ≡ q → Appended at (badLine number) l x q → length x ≡ length l → Tells plan w number line at l l′ w′ r
   tells-bad e f g h a k = record { after = rw (e, g); text = rw (e, f, h) a; size = rw f k }
 
-  pub tells-move : {told : DrillMove} {m : Move} {o : Moved} → line ≡ Line.Move told → l′ ≡ x → w′ ≡ o .world → r ≡ q
-      → m ≡ moveOf told → o ≡ worldAct plan w m → Appended at (moveLine number (o .world) (plan .nodecount) (o .refusal)) l x q → length x ≡ length l
+  pub tells-move : {act : Act} {reached : Bool} {fate : Fate} {m : Move} {o : Moved} → line ≡ Line.Move act reached fate → l′ ≡ x → w′ ≡ o .world → r ≡ q
+      → m ≡ onDrillBus act reached fate → o ≡ worldAct plan w m → Appended at (moveLine number (o .world) (plan .nodecount) (o .refusal)) l x q → length x ≡ length l
       → Tells plan w number line at l l′ w′ r
   unfolding lineMoved
-  tells-move {told = told} {o = o} e f g h b c a k =
-      let z : o ≡ lineMoved plan w told = c ∙ ap (worldAct plan w) b in
+  tells-move {act = act} {reached = reached} {fate = fate} {o = o} e f g h b c a k =
+      let z : o ≡ lineMoved plan w act reached fate = c ∙ ap (worldAct plan w) b in
       record {
         after = rw e (g ∙ ap (λ (y : Moved). y .world) z);
         text = rw (e, f, h) (appended-as (ap (λ (y : Moved). moveLine number (y .world) (plan .nodecount) (y .refusal)) z) a);
@@ -59,7 +61,8 @@ ends d e f g t =
     }
 
 line-short : (plan : Plan) (w : World) (number : ℕ) (line : Line) → length (lineText plan w number line) ≤ 80
-line-short plan w number (Line.Move told) = move-short number (lineMoved plan w told .world) (plan .nodecount) (lineMoved plan w told .refusal)
+line-short plan w number (Line.Move act reached fate) =
+    move-short number (lineMoved plan w act reached fate .world) (plan .nodecount) (lineMoved plan w act reached fate .refusal)
 line-short plan w number Line.Bad = bad-short number
 
 -- 80 bytes of text for each byte of input are room enough, and 80 at its end

@@ -1,39 +1,40 @@
 -- The drill: what its input does and prints, byte by byte and line by line.
 use Prim.Native.Nat.{ℕ, _+_, _%_, _^_, _≤_, _<_}
 use mathlib.Core.Path.{_≡_}
+use mathlib.Core.Bool.{Bool}
 use mathlib.Core.List.{List, [], _∷_, _++_}
 use lib.Dec.{eqb, ltb}
 use lib.ListN.{length, getD, set, take, replicate}
 use Rattle.folds.specs.Fold.{pick}
 use Rattle.plan.specs.declared.Plan.{Plan}
+use Rattle.bus.specs.declared.Act.{Act}
+use Rattle.bus.specs.declared.Fate.{Fate}
 use Rattle.bus.specs.declared.World.{World}
 use Rattle.bus.specs.declared.Moved.{Moved}
 use Rattle.bus.specs.World.{powerOn}
 use Rattle.bus.specs.Moves.{worldAct}
 use Rattle.text.specs.Text.{Appended, Shown}
-use Rattle.drill_line.specs.declared.DrillMove.{DrillMove}
 use Rattle.drill_line.specs.declared.Line.{Line}
 use Rattle.drill_line.specs.Words.{cut}
-use Rattle.drill_line.specs.Parse.{parseLine}
+use Rattle.drill_line.specs.Parse.{parseLine, onDrillBus}
 use Rattle.drill_text.specs.Lines.{moveLine, badLine}
 use Rattle.drill_feed.specs.declared.Held.{Held}
 use Rattle.drill_feed.specs.declared.Drill.{Drill}
 use Rattle.drill_feed.specs.declared.Fed.{Fed}
-use Rattle.drill_feed.specs.Moves.{moveOf}
 
--- what a move of the drill gives
-unfoldable pub lineMoved : Plan → World → DrillMove → Moved
-lineMoved plan world told = worldAct plan world (moveOf told)
+-- what a line's move gives
+unfoldable pub lineMoved : Plan → World → Act → Bool → Fate → Moved
+lineMoved plan world act reached fate = worldAct plan world (onDrillBus act reached fate)
 
 -- the world after a line: "Any other line .. counts", and moves nothing
 abbrev pub worldAfter : Plan → World → Line → World
-worldAfter plan world (Line.Move told) = lineMoved plan world told .world
+worldAfter plan world (Line.Move act reached fate) = lineMoved plan world act reached fate .world
 worldAfter plan world Line.Bad = world
 
 -- what a line prints
 abbrev pub lineText : Plan → World → ℕ → Line → List ℕ
-lineText plan world number (Line.Move told) =
-    moveLine number (lineMoved plan world told .world) (plan .nodecount) (lineMoved plan world told .refusal)
+lineText plan world number (Line.Move act reached fate) =
+    moveLine number (lineMoved plan world act reached fate .world) (plan .nodecount) (lineMoved plan world act reached fate .refusal)
 lineText plan world number Line.Bad = badLine number
 
 -- the line after so many, of 64 bits

@@ -4,16 +4,10 @@ ghost use Prim.Native.Nat.{_≤_};
 ghost use lib.ListN.{length};
 ghost use Rattle.text.specs.Text.{Shown, Counts};
 ghost use Rattle.drill_line.specs.Parse.{parseLine};
-ghost use Rattle.drill_feed.specs.Moves.{busFate, carries, moveOf};
 ghost use Rattle.drill_feed.specs.Feed.{emptyHeld, holdAll, heldText, started, fed, said, lastSaid, LineEnd, Gives, GivesFirst};
-use bus::Act;
-use bus::Bus;
-use bus::Damage;
-use bus::Fate;
-use bus::Move;
 use bus::World;
-use drill_line::DrillMove;
 use drill_line::Line;
+use drill_line::on_drill_bus;
 use drill_text::append_bad;
 use drill_text::append_move;
 use plan::Plan;
@@ -37,62 +31,6 @@ pub struct Drill {
 pub struct Fed {
     pub drill: Drill,
     pub length: usize,
-}
-
-fn bus_fate(fate: drill_line::Fate) -> Fate
-    ensures { λ r. ⌜ r ≡ busFate fate ⌝ }
-{
-    match fate {
-        drill_line::Fate::Whole => Fate::Whole,
-        drill_line::Fate::Damaged => Fate::Damaged(Damage {
-            result: 1,
-            length: 0,
-            count: 0,
-            permission: false,
-            wake: false,
-        }),
-        drill_line::Fate::Lost => Fate::Lost,
-    }
-}
-
-fn carries(act: Act, reached: bool, fate: Fate) -> Move
-    ensures { λ r. ⌜ r ≡ carries act reached fate ⌝ }
-{
-    Move {
-        act,
-        bus: Bus {
-            reached: [reached; 16],
-            hearing: [true; 16],
-            master: true,
-            fate,
-        },
-    }
-}
-
-fn bus_move(told: DrillMove) -> Move
-    ensures { λ r. ⌜ r ≡ moveOf told ⌝ }
-{
-    match told {
-        DrillMove::Tick => carries(Act::Tick, true, Fate::Whole),
-        DrillMove::WakeNode(node) => carries(Act::NodeWakeAsk(node), true, Fate::Whole),
-        DrillMove::WakeMaster => carries(Act::MasterWakeAsk, true, Fate::Whole),
-        DrillMove::PermitNode(node, permitted) => {
-            carries(Act::NodePermission { node, permitted }, true, Fate::Whole)
-        }
-        DrillMove::PermitMaster(permitted) => carries(
-            Act::MasterPermission(permitted),
-            true,
-            Fate::Whole,
-        ),
-        DrillMove::Request(reqid, fate) => carries(Act::Request(reqid), true, bus_fate(fate)),
-        DrillMove::Send(node, reqid, fate) => carries(
-            Act::SendAsk { node, reqid },
-            true,
-            bus_fate(fate),
-        ),
-        DrillMove::Sleep => carries(Act::SleepAsk, true, Fate::Whole),
-        DrillMove::Sent(sent) => carries(Act::SendResult(sent), sent, Fate::Whole),
-    }
 }
 
 impl Held {
@@ -193,8 +131,8 @@ impl Drill {
                 Line::Bad => {
                     next = append_bad(out, next, lines);
                 }
-                Line::Move(told) => {
-                    let moved = world.act(plan, bus_move(told));
+                Line::Move(act, reached, fate) => {
+                    let moved = world.act(plan, on_drill_bus(act, reached, fate));
                     world = moved.world;
                     next = append_move(out, next, lines, world, plan.nodecount, moved.refusal);
                 }

@@ -3,23 +3,28 @@ use Prim.Native.String.{String}
 use mathlib.Core.Path.{_≡_, refl}
 use mathlib.Core.List.{List, [], _∷_, map}
 use mathlib.Core.Bool.{true, false}
+use Rattle.bus.specs.declared.Act.{Act}
+use Rattle.bus.specs.declared.Fate.{Fate}
 use Rattle.text.specs.Text.{ascii}
 use Rattle.drill_line.specs.declared.Line.{Line}
-use Rattle.drill_line.specs.declared.DrillMove.{DrillMove}
-use Rattle.drill_line.specs.declared.Fate.{Fate}
 use Rattle.drill_line.specs.Words.{same, cut}
-use Rattle.drill_line.specs.Parse.{parseLine}
+use Rattle.drill_line.specs.Parse.{damaged, parseLine}
 
 abbrev judged : List String → List Line
 judged lines = map (λ line. parseLine (ascii line) 16) lines
 
-pub moves : judged (
-    "tick" ∷ "wake 15" ∷ "wake m" ∷ "permit 0 1" ∷ "permit m 0" ∷ "req 0 ok" ∷ "req 127 bad" ∷ "send 9 10 lost" ∷ "sleep" ∷ "sent ok" ∷ "sent fail" ∷ [])
-    ≡ map Line.Move (
-    DrillMove.Tick ∷ DrillMove.WakeNode 15 ∷ DrillMove.WakeMaster ∷ DrillMove.PermitNode 0 true ∷ DrillMove.PermitMaster false ∷ DrillMove.Request 0 Fate.Whole
-    ∷ DrillMove.Request 127 Fate.Damaged ∷ DrillMove.Send 9 10 Fate.Lost ∷ DrillMove.Sleep ∷ DrillMove.Sent true ∷ DrillMove.Sent false ∷ [])
+-- moves of which the bus loses nothing
+pub whole-moves : judged ("tick" ∷ "wake 15" ∷ "wake m" ∷ "permit 0 1" ∷ "permit m 0" ∷ "req 0 ok" ∷ "sleep" ∷ "sent ok" ∷ [])
+    ≡ map (λ act. Line.Move act true Fate.Whole) (
+    Act.Tick ∷ Act.NodeWakeAsk 15 ∷ Act.MasterWakeAsk ∷ Act.NodePermission 0 true ∷ Act.MasterPermission false ∷ Act.Request 0 ∷ Act.SleepAsk
+    ∷ Act.SendResult true ∷ [])
 unfolding parseLine cut same
-moves = refl
+whole-moves = refl
+
+pub other-moves : judged ("req 127 bad" ∷ "send 9 10 lost" ∷ "sent fail" ∷ [])
+    ≡ Line.Move (Act.Request 127) true damaged ∷ Line.Move (Act.SendAsk 9 10) true Fate.Lost ∷ Line.Move (Act.SendResult false) false Fate.Whole ∷ []
+unfolding parseLine cut same
+other-moves = refl
 
 abbrev odd : List String
 odd =

@@ -3,12 +3,14 @@ use Prim.Native.Nat.{ℕ}
 use mathlib.Core.List.{List, [], _∷_}
 use mathlib.Core.Bool.{Bool, true, false}
 use lib.Dec.{ltb}
+use lib.ListN.{replicate}
 use Rattle.folds.specs.Fold.{pick}
+use Rattle.bus.specs.declared.Act.{Act}
+use Rattle.bus.specs.declared.Fate.{Fate}
+use Rattle.bus.specs.declared.Move.{Move}
 use Rattle.text.specs.Text.{ascii}
 use Rattle.drill_line.specs.Words.{same, words, numberOf}
 use Rattle.drill_line.specs.declared.Line.{Line}
-use Rattle.drill_line.specs.declared.DrillMove.{DrillMove}
-use Rattle.drill_line.specs.declared.Fate.{Fate}
 use Rattle.drill_line.specs.declared.FateWord.{FateWord}
 use Rattle.drill_line.specs.declared.Who.{Who}
 
@@ -16,33 +18,41 @@ use Rattle.drill_line.specs.declared.Who.{Who}
 abbrev pub whoOf : List ℕ → ℕ → Who
 whoOf w nodecount = pick (same w (ascii "m")) Who.Master (pick (ltb (numberOf w) nodecount) (Who.Node (numberOf w)) Who.Nobody)
 
+-- "damaged (result not 0, ReqId kept, count still 0 to 3)": result 1, and all else clear, which the master does not look at
+abbrev pub damaged : Fate
+damaged = Fate.Damaged (record { result = 1; length = 0; count = 0; permission = false; wake = false })
+
 -- "H being ok, bad or lost for the answer"
 abbrev pub fateOf : List ℕ → FateWord
 fateOf w =
     pick (same w (ascii "ok")) (FateWord.Is Fate.Whole)
-    (pick (same w (ascii "bad")) (FateWord.Is Fate.Damaged)
+    (pick (same w (ascii "bad")) (FateWord.Is damaged)
     (pick (same w (ascii "lost")) (FateWord.Is Fate.Lost)
     FateWord.Unknown))
 
 -- `tick`; `sleep`
 abbrev pub oneWord : List ℕ → Line
-oneWord w = pick (same w (ascii "tick")) (Line.Move DrillMove.Tick) (pick (same w (ascii "sleep")) (Line.Move DrillMove.Sleep) Line.Bad)
+oneWord w = pick (same w (ascii "tick")) (Line.Move Act.Tick true Fate.Whole) (pick (same w (ascii "sleep")) (Line.Move Act.SleepAsk true Fate.Whole) Line.Bad)
 
 abbrev pub wakeOf : Who → Line
-wakeOf (Who.Node node) = Line.Move (DrillMove.WakeNode node)
-wakeOf Who.Master = Line.Move DrillMove.WakeMaster
+wakeOf (Who.Node node) = Line.Move (Act.NodeWakeAsk node) true Fate.Whole
+wakeOf Who.Master = Line.Move Act.MasterWakeAsk true Fate.Whole
 wakeOf Who.Nobody = Line.Bad
 
+-- "`sent ok` (reaches all) or `sent fail` (none)"
 abbrev pub sentOf : List ℕ → Line
-sentOf result = pick (same result (ascii "ok")) (Line.Move (DrillMove.Sent true)) (pick (same result (ascii "fail")) (Line.Move (DrillMove.Sent false)) Line.Bad)
+sentOf result =
+    pick (same result (ascii "ok")) (Line.Move (Act.SendResult true) true Fate.Whole)
+    (pick (same result (ascii "fail")) (Line.Move (Act.SendResult false) false Fate.Whole)
+    Line.Bad)
 
 -- `wake X`; `sent ok` or `sent fail`
 abbrev pub twoWords : List ℕ → List ℕ → ℕ → Line
 twoWords w x nodecount = pick (same w (ascii "wake")) (wakeOf (whoOf x nodecount)) (pick (same w (ascii "sent")) (sentOf x) Line.Bad)
 
 abbrev pub permitWho : Who → Bool → Line
-permitWho (Who.Node node) permitted = Line.Move (DrillMove.PermitNode node permitted)
-permitWho Who.Master permitted = Line.Move (DrillMove.PermitMaster permitted)
+permitWho (Who.Node node) permitted = Line.Move (Act.NodePermission node permitted) true Fate.Whole
+permitWho Who.Master permitted = Line.Move (Act.MasterPermission permitted) true Fate.Whole
 permitWho Who.Nobody permitted = Line.Bad
 
 abbrev pub permitOf : Who → List ℕ → Line
@@ -50,7 +60,7 @@ permitOf who permission = pick (same permission (ascii "0")) (permitWho who fals
 
 -- "R 0 to 127"
 abbrev pub requestOf : ℕ → FateWord → Line
-requestOf reqid (FateWord.Is fate) = pick (ltb 127 reqid) Line.Bad (Line.Move (DrillMove.Request reqid fate))
+requestOf reqid (FateWord.Is fate) = pick (ltb 127 reqid) Line.Bad (Line.Move (Act.Request reqid) true fate)
 requestOf reqid FateWord.Unknown = Line.Bad
 
 -- `permit X 0` or `1`; `req R H`
@@ -60,7 +70,7 @@ threeWords w x y nodecount =
 
 -- "(not m)"
 abbrev pub sendWho : Who → ℕ → Fate → Line
-sendWho (Who.Node node) reqid fate = Line.Move (DrillMove.Send node reqid fate)
+sendWho (Who.Node node) reqid fate = Line.Move (Act.SendAsk node reqid) true fate
 sendWho Who.Master reqid fate = Line.Bad
 sendWho Who.Nobody reqid fate = Line.Bad
 
@@ -83,3 +93,7 @@ lineOf (w ∷ x ∷ y ∷ z ∷ v ∷ more) nodecount = Line.Bad
 -- the move that a line names in a plan of so many nodes
 unfoldable pub parseLine : List ℕ → ℕ → Line
 parseLine text nodecount = lineOf (words text) nodecount
+
+-- "Nothing else is lost": all nodes and the master hear every pulse
+abbrev pub onDrillBus : Act → Bool → Fate → Move
+onDrillBus act reached fate = record { act = act; bus = record { reached = replicate 16 reached; hearing = replicate 16 true; master = true; fate = fate } }

@@ -4,16 +4,15 @@ ghost use mathlib.Core.List.{_∷_};
 ghost use Prim.Native.Nat.{_+_, _<_};
 ghost use lib.ListN.{length, take, drop};
 ghost use Rattle.drill_line.specs.Words.{same, words, firstSpace, digitOf, twoDigits, threeDigits, numberOf};
-ghost use Rattle.drill_line.specs.Parse.{whoOf, fateOf, oneWord, wakeOf, sentOf, twoWords, permitWho, permitOf, requestOf, threeWords, sendWho, sendOf, fourWords, lineOf, parseLine};
+ghost use Rattle.drill_line.specs.Parse.{whoOf, fateOf, oneWord, wakeOf, sentOf, twoWords, permitWho, permitOf, requestOf, threeWords, sendWho, sendOf, fourWords, lineOf, parseLine, onDrillBus};
 use blocks::byte_at;
+use bus::Act;
+use bus::Bus;
+use bus::Damage;
+use bus::Fate;
+use bus::Move;
 
-// What the bus does to an answer: H.
-pub enum Fate {
-    Whole,
-    Damaged,
-    Lost,
-}
-
+// What becomes of an answer: H.
 pub enum FateWord {
     Is(Fate),
     Unknown,
@@ -26,23 +25,10 @@ pub enum Who {
     Nobody,
 }
 
-pub enum DrillMove {
-    Tick,
-    WakeNode(u8),
-    WakeMaster,
-    PermitNode(u8, bool),
-    PermitMaster(bool),
-    // a ReqId, and what becomes of the answer
-    Request(u8, Fate),
-    // a node, a ReqId, and what becomes of the answer
-    Send(u8, u8, Fate),
-    Sleep,
-    // whether the sleep message was sent
-    Sent(bool),
-}
-
+// A move in its parts: an enum that holds arrays, as a `Move` has, takes proofs by hand.
 pub enum Line {
-    Move(DrillMove),
+    // the act, whether its message reaches all nodes or none, and what becomes of its answer
+    Move(Act, bool, Fate),
     Bad,
 }
 
@@ -164,7 +150,13 @@ fn fate_word(word: &[u8]) -> FateWord
         return FateWord::Is(Fate::Whole);
     }
     if same(word, b"bad") {
-        return FateWord::Is(Fate::Damaged);
+        return FateWord::Is(Fate::Damaged(Damage {
+            result: 1,
+            length: 0,
+            count: 0,
+            permission: false,
+            wake: false,
+        }));
     }
     if same(word, b"lost") {
         return FateWord::Is(Fate::Lost);
@@ -176,10 +168,10 @@ fn one_word(first: &[u8]) -> Line
     ensures { λ r. ⌜ r ≡ oneWord (now (first .entry)) ⌝ }
 {
     if same(first, b"tick") {
-        return Line::Move(DrillMove::Tick);
+        return Line::Move(Act::Tick, true, Fate::Whole);
     }
     if same(first, b"sleep") {
-        return Line::Move(DrillMove::Sleep);
+        return Line::Move(Act::SleepAsk, true, Fate::Whole);
     }
     Line::Bad
 }
@@ -188,8 +180,8 @@ fn wake(who: Who) -> Line
     ensures { λ r. ⌜ r ≡ wakeOf who ⌝ }
 {
     match who {
-        Who::Node(node) => Line::Move(DrillMove::WakeNode(node)),
-        Who::Master => Line::Move(DrillMove::WakeMaster),
+        Who::Node(node) => Line::Move(Act::NodeWakeAsk(node), true, Fate::Whole),
+        Who::Master => Line::Move(Act::MasterWakeAsk, true, Fate::Whole),
         Who::Nobody => Line::Bad,
     }
 }
@@ -198,10 +190,10 @@ fn sent(result: &[u8]) -> Line
     ensures { λ r. ⌜ r ≡ sentOf (now (result .entry)) ⌝ }
 {
     if same(result, b"ok") {
-        return Line::Move(DrillMove::Sent(true));
+        return Line::Move(Act::SendResult(true), true, Fate::Whole);
     }
     if same(result, b"fail") {
-        return Line::Move(DrillMove::Sent(false));
+        return Line::Move(Act::SendResult(false), false, Fate::Whole);
     }
     Line::Bad
 }
@@ -222,8 +214,8 @@ fn permit_who(who: Who, permitted: bool) -> Line
     ensures { λ r. ⌜ r ≡ permitWho who permitted ⌝ }
 {
     match who {
-        Who::Node(node) => Line::Move(DrillMove::PermitNode(node, permitted)),
-        Who::Master => Line::Move(DrillMove::PermitMaster(permitted)),
+        Who::Node(node) => Line::Move(Act::NodePermission { node, permitted }, true, Fate::Whole),
+        Who::Master => Line::Move(Act::MasterPermission(permitted), true, Fate::Whole),
         Who::Nobody => Line::Bad,
     }
 }
@@ -248,7 +240,7 @@ fn request(reqid: u16, word: FateWord) -> Line
             if 127 < reqid {
                 Line::Bad
             } else {
-                Line::Move(DrillMove::Request(reqid as u8, fate))
+                Line::Move(Act::Request(reqid as u8), true, fate)
             }
         }
         FateWord::Unknown => Line::Bad,
@@ -271,7 +263,7 @@ fn send_who(who: Who, reqid: u8, fate: Fate) -> Line
     ensures { λ r. ⌜ r ≡ sendWho who reqid fate ⌝ }
 {
     match who {
-        Who::Node(node) => Line::Move(DrillMove::Send(node, reqid, fate)),
+        Who::Node(node) => Line::Move(Act::SendAsk { node, reqid }, true, fate),
         Who::Master => Line::Bad,
         Who::Nobody => Line::Bad,
     }
@@ -361,4 +353,19 @@ pub fn parse(line: &[u8], nodecount: u8) -> Line
         return one_word(line);
     }
     after_one(front(line, space), rest(line, space), nodecount)
+}
+
+// A line's move on the bus.
+pub fn on_drill_bus(act: Act, reached: bool, fate: Fate) -> Move
+    ensures { λ r. ⌜ r ≡ onDrillBus act reached fate ⌝ }
+{
+    Move {
+        act,
+        bus: Bus {
+            reached: [reached; 16],
+            hearing: [true; 16],
+            master: true,
+            fate,
+        },
+    }
 }

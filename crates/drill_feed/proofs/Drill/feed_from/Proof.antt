@@ -74,8 +74,8 @@ append-bad-requires c κs = search needs
 enum-known-line : tie.Need-enum-known-line Inv-loop μ-loop
 enum-known-line c = search needs
 
-bus-move-requires : tie.Need-bus-move-requires Inv-loop μ-loop
-bus-move-requires c κs = search needs
+on-drill-bus-requires : tie.Need-on-drill-bus-requires Inv-loop μ-loop
+on-drill-bus-requires c κs = search needs
 
 act-requires : tie.Need-act-requires Inv-loop μ-loop
 act-requires c κs = search needs
@@ -141,7 +141,7 @@ feed-from-spec =
     enum-told
     append-bad-requires
     enum-known-line
-    bus-move-requires
+    on-drill-bus-requires
     act-requires
     append-move-requires
     empty-requires
