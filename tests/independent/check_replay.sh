@@ -22,7 +22,8 @@ build() {
         states) own="$3/replay_states.c $3/reference_packed.c" ;;
         esac
         # shellcheck disable=SC2086
-        "$1" -std=c11 -Wall -Wextra -Werror -pedantic $2 -I"$here/../../include" $own "$3/run.c" "$3/bus.c" "$3/reference.c" -o "$work/$4_$program"
+        "$1" -std=c11 -Wall -Wextra -Werror -pedantic $2 -I"$here/../../include" $own "$3/run.c" "$3/bus.c" "$3/reference.c" \
+            -o "$work/$4_$program"
     done
 }
 

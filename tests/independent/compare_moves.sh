@@ -5,7 +5,7 @@
 # REPLAY prints lines as replay.c, STATES writes frames as replay_states.c; - leaves one out. Both run where plan.set is, with the moves on
 # standard input.
 set -eu
-if [ $# -lt 2 ] || [ "$1 $2" = '- -' ]; then
+if [ $# -lt 2 ] || [ "$1 $2" = '- -' ] || [ "${3:-1}" -lt 1 ] || [ "${4:-1}" -lt 1 ]; then
     sed -n '/^# Run/,/^[^#]/s/^# //p' "$0"
     exit 2
 fi
@@ -31,7 +31,8 @@ trap 'rm -rf "$work"' EXIT
 build() {
     name=$1
     shift
-    "${CC:-gcc}" -std=c11 -O2 -Wall -Wextra -Werror -pedantic -I"$here/../../include" "$@" "$here/bus.c" "$here/reference.c" -o "$work/$name"
+    "${CC:-gcc}" -std=c11 -O2 -Wall -Wextra -Werror -pedantic -I"$here/../../include" "$@" "$here/bus.c" "$here/reference.c" \
+        -o "$work/$name"
 }
 build make_moves "$here/make_moves.c"
 build reference_replay "$here/replay.c" "$here/run.c"

@@ -11,8 +11,9 @@
 
 enum { LABELS = 400, LABEL_ROOM = 96, REFUSALS = 22 };
 
-static const char *const act_names[REFERENCE_ACTS] = {"tick",    "node's ask to wake", "master's ask to wake", "node's permission", "master's permission",
-                                                      "request", "ask to send",        "sleep ask",            "send result"};
+static const char *const act_names[REFERENCE_ACTS] = {
+    "tick",        "node's ask to wake", "master's ask to wake", "node's permission", "master's permission", "request",
+    "ask to send", "sleep ask",          "send result"};
 static const char *const state_names[] = {"Normal", "Standby", "Sleep"};
 static const char *const phase_names[] = {"Open", "Sending", "Withdrawn", "Closing"};
 
@@ -155,7 +156,8 @@ static void count_nodes(const deed *done) {
             count(after->error ? "node shows an error" : "node's error ends", state_names[before->state], act);
         }
         if (tick && before->state == REFERENCE_NORMAL && after->state == REFERENCE_SLEEP) {
-            count("node falls asleep", before->delay_runs && before->delay + 1 == done->plan->times.sleep ? "sleep delay" : "quiet limit", act);
+            bool delay_ends = before->delay_runs && before->delay + 1 == done->plan->times.sleep;
+            count("node falls asleep", delay_ends ? "sleep delay" : "quiet limit", act);
         }
         if (tick && !clock && before->state == REFERENCE_STANDBY && !before->caller && after->state == REFERENCE_STANDBY &&
             before->standby_count + 1 == done->plan->times.space) {
@@ -181,14 +183,18 @@ static void count_answer(const deed *done) {
         count("whole answer", sender->wake ? "wake bit" : sender->permission ? "permission" : "refusing", phase);
         uint8_t last = done->before->master.last_counts[row->reqid];
         if (row->counted) {
-            count("whole answer's count", last == REFERENCE_NO_COUNT ? "first" : ((counted - last - 1) & 3) == 0 ? "next" : "some lost", "");
+            const char *after_last = ((counted - last - 1) & 3) == 0 ? "next" : "some lost";
+            count("whole answer's count", last == REFERENCE_NO_COUNT ? "first" : after_last, "");
         } else {
             count("whole answer's count", "row without", "");
         }
         break;
     case REFERENCE_DAMAGED:
         count("damaged answer", done->before->master.permissions[row->publisher].held ? "publisher held" : "publisher not held", phase);
-        count("damaged answer says", done->move->wake ? "wake bit" : done->move->permission ? "permission" : "no permission",
+        count("damaged answer says",
+              done->move->wake         ? "wake bit"
+              : done->move->permission ? "permission"
+                                       : "no permission",
               done->move->length == row->length ? "row's length" : "another length");
         break;
     default:
@@ -200,7 +206,8 @@ static void count_answer(const deed *done) {
 /* The first cause of 15 in its order. */
 static void count_no_event(const deed *done) {
     if (done->refusal == 15) {
-        count("15", done->move->value > 127 ? "ReqId above 127" : done->move->result == 0 ? "damaged with result 0" : "damaged with a count above 3",
+        const char *damage = done->move->result == 0 ? "damaged with result 0" : "damaged with a count above 3";
+        count("15", done->move->value > 127 ? "ReqId above 127" : damage,
               reference_clock_is_on(done->before) ? "clock on" : "clock off");
     }
 }
@@ -212,7 +219,8 @@ static void count_refused_message(const deed *done) {
     if (done->refusal == 16) {
         count("16", reference_clock_is_on(done->before) ? "publisher or sender not Normal" : "no clock", act);
     } else if (done->refusal == 12) {
-        count("12", row == NULL ? "not in the plan" : row->publisher == REFERENCE_MASTER_PUBLISHER ? "master's row" : "another node's row", act);
+        bool of_master = row != NULL && row->publisher == REFERENCE_MASTER_PUBLISHER;
+        count("12", row == NULL ? "not in the plan" : of_master ? "master's row" : "another node's row", act);
     }
 }
 
@@ -286,8 +294,12 @@ static bool count_folder(const char *folder) {
     char path[4096];
     snprintf(path, sizeof path, "%s/moves", folder);
     FILE *moves = fopen(path, "rb");
+    if (moves == NULL) {
+        return false;
+    }
     snprintf(path, sizeof path, "%s/plan.set", folder);
-    if (moves == NULL || reference_run_start(&run, path, moves) != 0) {
+    if (reference_run_start(&run, path, moves) != 0) {
+        fclose(moves);
         return false;
     }
     for (reference_world before = run.world; reference_run_next(&run); before = run.world) {
@@ -318,8 +330,8 @@ static void print_counts(void) {
     for (size_t place = 0; place < labels; place++) {
         printf("%10" PRIu64 "  %s\n", counts[place].times, counts[place].label);
     }
-    printf("largest age %" PRIu32 ", quiet count %" PRIu32 ", sleep delay %" PRIu32 ", standby count %" PRIu32 "\n", most_age, most_quiet,
-           most_delay, most_standby);
+    printf("largest age %" PRIu32 ", quiet count %" PRIu32 ", sleep delay %" PRIu32 ", standby count %" PRIu32 "\n", most_age,
+           most_quiet, most_delay, most_standby);
 }
 
 int main(int argc, char **argv) {

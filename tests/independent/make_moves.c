@@ -80,7 +80,8 @@ static uint16_t any_time(maker *make, uint32_t most) {
     return (uint16_t)between(make, least(most, 200), kind < 98 ? least(most, 700) : most);
 }
 
-/* Clock start and stop stay short: little happens while they run. With R 1 a second pulse can fall into the tick that stops the clock. */
+/* Clock start and stop stay short: little happens while they run. With R 1 a second pulse can fall into the tick that stops the clock.
+ */
 static void make_times(maker *make) {
     reference_times *times = &make->plan.times;
     times->window = any_time(make, 30000);
@@ -190,8 +191,7 @@ static uint16_t some_set(maker *make, uint32_t all_percent) {
 
 static reference_move new_move(maker *make, uint8_t act) {
     reference_move move = {.act = act};
-    bool flag =
-        act == REFERENCE_ACT_NODE_PERMISSION || act == REFERENCE_ACT_MASTER_PERMISSION || act == REFERENCE_ACT_SEND_RESULT;
+    bool flag = act == REFERENCE_ACT_NODE_PERMISSION || act == REFERENCE_ACT_MASTER_PERMISSION || act == REFERENCE_ACT_SEND_RESULT;
     move.node = any_byte(make);
     move.value = flag ? (uint8_t)below(make, 2) : any_byte(make);
     move.fate = (uint8_t)below(make, 3);

@@ -1,10 +1,11 @@
-mod ClockShown
-mod DarkShown
+mod ExampleClocks
+mod ExampleDark
+mod ExamplePlans
+mod ExampleStops
+mod ExampleUp
+mod ExampleWords
 pub mod Holds
 pub mod Judged
 pub mod Masters
 pub mod Nodes
-mod PlansShown
 pub mod Ticks
-mod UpShown
-mod WordsShown

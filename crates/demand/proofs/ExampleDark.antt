@@ -16,8 +16,8 @@ use Rattle.demand.specs.Examples.{plan, quietPlan, recoveryPlan, windowP
 use Rattle.demand.specs.Run.{run}
 use Rattle.demand.specs.Words.{none, isStop, leavesOff, isAsk}
 use Rattle.demand.proofs.Holds.{demand3}
-use Rattle.demand.proofs.ClockShown.{Dark, lit, clock-for, not-due, too-early}
-use Rattle.demand.proofs.PlansShown.{accepted, quiet-accepted, recovery-accepted, window-accepted}
+use Rattle.demand.proofs.ExampleClocks.{Dark, lit, clock-for, not-due, too-early}
+use Rattle.demand.proofs.ExamplePlans.{accepted, quiet-accepted, recovery-accepted, window-accepted}
 
 -- R + P: node 1, woken by a second pulse at the R-th tick, sleeps P ticks later
 abbrev space-off : ClockFor leavesOff (settlingTime (plan .times)) (run plan (calling 5) .past)

@@ -14,8 +14,8 @@ use Rattle.demand.specs.Examples.{plan, waking, failing, failingLater}
 use Rattle.demand.specs.Run.{run}
 use Rattle.demand.specs.Words.{none, leavesOn, reaches}
 use Rattle.demand.proofs.Holds.{demand3}
-use Rattle.demand.proofs.ClockShown.{Up, down, clock-for, not-owed, too-soon}
-use Rattle.demand.proofs.PlansShown.{accepted}
+use Rattle.demand.proofs.ExampleClocks.{Up, down, clock-for, not-owed, too-soon}
+use Rattle.demand.proofs.ExamplePlans.{accepted}
 
 -- a sleep message that failed reached node 1 just before the first of the ticks: it sleeps at the S-th and is back at S + 2
 abbrev failed-on : ClockFor leavesOn (wakingTime (plan .times)) (run plan (failing 4) .past)
