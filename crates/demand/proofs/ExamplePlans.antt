@@ -6,7 +6,7 @@ use Rattle.folds.specs.Fold.{allTo, anyTo}
 use Rattle.plan.specs.declared.Times.{Times}
 use Rattle.plan.specs.Rules.{timesRight, entryRight, differs, nodeRight, nodesRight, reqidBefore, rowAfter, rowRight, rowsRight, isFrom, publishes, allPublish, planRefusal}
 use Rattle.demand.specs.Demand3.{settlingTime, wakingTime}
-use Rattle.demand.specs.Examples.{plan, quietPlan, recoveryPlan, windowPlan}
+use Rattle.history.specs.Examples.{plan, quietPlan, recoveryPlan, windowPlan}
 
 pub accepted : planRefusal plan ≡ 0
 unfolding planRefusal timesRight entryRight differs nodeRight nodesRight reqidBefore rowAfter rowRight rowsRight isFrom publishes allPublish allTo anyTo

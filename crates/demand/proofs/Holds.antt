@@ -58,8 +58,8 @@ use Rattle.bus.specs.declared.Passed.{Passed}
 use Rattle.bus.specs.Passed.{ticked, asked, answered}
 use Rattle.bus.specs.World.{nodesUsed, nodeAt, stays}
 use Rattle.demand.specs.Demand3.{settlingTime, Settles, Wakes, Demand3}
-use Rattle.demand.specs.Run.{Run, then, runFrom, run, start}
-use Rattle.demand.specs.Words.{nodePermitted}
+use Rattle.history.specs.Run.{Run, then, runFrom, run, start}
+use Rattle.history.specs.Words.{nodePermitted}
 use Rattle.demand.proofs.Masters as Masters
 use Rattle.demand.proofs.Masters.{MasterTold}
 use Rattle.demand.proofs.Nodes as Nodes

@@ -23,7 +23,7 @@ use Rattle.bus.specs.Moves.{worldAct, worldStep}
 use Rattle.bus.specs.Range.{nodeInRange, worldInRange}
 use Rattle.bus.specs.declared.Passed.{Passed}
 use Rattle.bus.specs.World.{nodesUsed, nodeAt, stays}
-use Rattle.demand.specs.Run.{run}
+use Rattle.history.specs.Run.{run}
 use Rattle.demand.proofs.Holds.{AsTold, run-told}
 
 module _ (p : Plan) (ok : planRefusal p ≡ 0) where

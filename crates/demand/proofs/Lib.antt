@@ -1,11 +1,10 @@
-mod ExampleClocks
-mod ExampleDark
 mod ExamplePlans
-mod ExampleStops
-mod ExampleUp
-mod ExampleWords
 pub mod Holds
 pub mod Judged
 pub mod Masters
 pub mod Nodes
+mod ShownClocks
+mod ShownDark
+mod ShownStops
+mod ShownUp
 pub mod Ticks

@@ -34,7 +34,7 @@ use Rattle.bus.specs.Passed.{ticked, asked, nodePermits, resultOf, slept}
 use Rattle.bus.specs.World.{powerOn, nodesUsed, noNode, nodeAt}
 use Rattle.bus.proofs.EachOne.{each-length, each-get}
 use Rattle.bus.proofs.WhoCalls.{callers-some}
-use Rattle.demand.specs.Words.{nodePermitted, isResult}
+use Rattle.history.specs.Words.{nodePermitted, isResult}
 use Rattle.demand.proofs.Ticks.{onFor, offFor}
 
 -- node i as the past tells

@@ -9,7 +9,7 @@ use Rattle.folds.proofs.AllAny.{and-l, and-r}
 use Rattle.folds.proofs.Choices.{no-way}
 use Rattle.bus.specs.declared.Passed.{Passed}
 use Rattle.demand.specs.Demand3.{ClockFor}
-use Rattle.demand.specs.Words.{every, none, ticksIn, leavesOn, leavesOff, isAsk, reaches}
+use Rattle.history.specs.Words.{every, none, ticksIn, leavesOn, leavesOff, isAsk, reaches}
 
 -- after each of which the clock was on, none of them before a sleep message that reached node i
 abbrev onStep : ℕ → Passed → ℕ → ℕ

@@ -15,8 +15,8 @@ use Rattle.bus.specs.declared.Move.{Move}
 use Rattle.bus.specs.declared.Passed.{Passed}
 use Rattle.bus.specs.Passed.{answered, sending}
 use Rattle.bus.specs.World.{nodeAt}
-use Rattle.demand.specs.Run.{run}
-use Rattle.demand.specs.Words.{every, none, masterPermitted, isAnswerOf, isDamaged, isRefusing, trulyGiven, isWakeUp, isSending, isStop, ticksIn, leavesOn, leavesOff, isAsk, reaches}
+use Rattle.history.specs.Run.{run}
+use Rattle.history.specs.Words.{every, none, masterPermitted, isAnswerOf, isDamaged, isRefusing, trulyGiven, isWakeUp, isSending, isStop, ticksIn, leavesOn, leavesOff, isAsk, reaches}
 
 -- the last answer of node i that reached the master: whole, truly given, within the window, and no wake-up since
 pub record Given (p : Plan) (i : ℕ) (past : List Passed) : Type 0 where

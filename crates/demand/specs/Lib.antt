@@ -1,4 +1,1 @@
 pub mod Demand3
-pub mod Examples
-pub mod Run
-pub mod Words

@@ -10,7 +10,7 @@ use Rattle.bus.specs.declared.Moved.{Moved}
 use Rattle.bus.specs.declared.World.{World}
 use Rattle.bus.specs.Moves.{worldAct}
 use Rattle.bus.specs.World.{powerOn}
-use Rattle.demand.specs.Run.{Run, then, runFrom, run, start}
+use Rattle.history.specs.Run.{Run, then, runFrom, run, start}
 use Rattle.runs.specs.Encoding.{halved}
 
 pub halved-more : (x i rest : ℕ) → rest ≡ halved x i → rest / 2 ≡ halved x (i + 1)

@@ -7,7 +7,7 @@ use Rattle.plan.specs.declared.Plan.{Plan}
 use Rattle.plan.specs.Rules.{planRefusal}
 use Rattle.bus.specs.declared.World.{World}
 use Rattle.bus.specs.World.{powerOn}
-use Rattle.demand.specs.Run.{run}
+use Rattle.history.specs.Run.{run}
 use Rattle.runs.specs.declared.Ran.{Ran}
 use Rattle.runs.specs.Encoding.{listRight, movesOf}
 

@@ -12,7 +12,7 @@
 ghost use mathlib.Core.Path.{_≡_};
 ghost use Rattle.bus.specs.World.{powerOn};
 ghost use Rattle.demand.specs.Demand3.{Demand3};
-ghost use Rattle.demand.specs.Run.{run};
+ghost use Rattle.history.specs.Run.{run};
 ghost use Rattle.runs.specs.Encoding.{movesOf};
 ghost use Rattle.runs.specs.Runs.{ranTo, runOf};
 use bus::World;

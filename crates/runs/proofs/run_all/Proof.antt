@@ -4,7 +4,7 @@ use mathlib.Core.Path.{_≡_, refl, ap, _∙_}
 use lib.ListN.{length}
 use native.Mathlib.Omega.{arith}
 use Rattle.folds.specs.Fold.{tab}
-use Rattle.demand.specs.Run.{run}
+use Rattle.history.specs.Run.{run}
 use Rattle.runs.specs.Encoding.{recordMove, movesOf}
 use Rattle.runs.proofs.Turns.{run-none, run-more}
 use borrow.Author.Needs.{needs}

@@ -7,15 +7,16 @@ use Rattle.folds.specs.Fold.{anyTo, firstTo, tab}
 use Rattle.plan.specs.Find.{hasReqid, rowAmong, findRow}
 use Rattle.master.specs.Sleeping.{notHeld}
 use Rattle.master.specs.Ticks.{allOlder}
+use Rattle.master.specs.declared.Answer.{Answer}
 use Rattle.bus.specs.declared.Act.{Act}
 use Rattle.bus.specs.declared.Bus.{Bus}
 use Rattle.bus.specs.declared.Fate.{Fate}
 use Rattle.bus.specs.declared.Move.{Move}
 use Rattle.bus.specs.declared.Passed.{Passed}
 use Rattle.bus.specs.Passed.{nothing}
-use Rattle.demand.specs.Examples.{plan, lossless, deaf, does, ticks, permitting, answering, asking, result, stopping, damaged, calling, unreached, waking}
-use Rattle.demand.specs.Run.{run}
-use Rattle.demand.specs.Words.{every, none, masterPermitted, nodePermitted, isAnswerOf, isDamaged, isRefusing, isWakeUp, isSending, isStop, ticksIn, leavesOn, leavesOff, isAsk, reaches}
+use Rattle.history.specs.Examples.{plan, lossless, deaf, does, ticks, permitting, answering, asking, result, stopping, damaged, calling, unreached, waking}
+use Rattle.history.specs.Run.{run}
+use Rattle.history.specs.Words.{every, none, masterPermitted, nodePermitted, isAnswerOf, isDamaged, isRefusing, trulyGiven, isWakeUp, isSending, isStop, ticksIn, leavesOn, leavesOff, isAsk, reaches}
 
 -- what passed in the last move of a list, under the first plan
 abbrev last : List Move → Passed
@@ -137,3 +138,15 @@ counted :
     × (none isStop (past stopping) ≡ false)
 unfolding findRow rowAmong hasReqid firstTo anyTo notHeld allOlder tab
 counted = (refl, refl, refl, refl, refl, refl)
+
+-- "Permission truly given": permission bit 1, wake bit 0, and the application's word
+abbrev answer : Bool → Bool → Answer
+answer permission wake = record { reqid = 1; result = 0; length = 2; count = 0; permission = permission; wake = wake }
+
+gives :
+    (trulyGiven 0 (answer true false) (past permitting) ≡ true)
+    × (trulyGiven 0 (answer false false) (past permitting) ≡ false)
+    × (trulyGiven 0 (answer true true) (past permitting) ≡ false)
+    × (trulyGiven 0 (answer true false) (past (permitting ++ (does (Act.NodePermission 0 false) ∷ []))) ≡ false)
+unfolding findRow rowAmong hasReqid firstTo anyTo notHeld allOlder tab
+gives = (refl, refl, refl, refl)

@@ -12,11 +12,11 @@ use Rattle.machine.specs.declared.State.{State}
 use Rattle.bus.specs.Passed.{nothing}
 use Rattle.bus.specs.World.{nodeAt}
 use Rattle.demand.specs.Demand3.{ClockFor, SettlesAfter, settlingTime}
-use Rattle.demand.specs.Examples.{plan, quietPlan, recoveryPlan, windowPlan, calling, callingBoth, unreached}
-use Rattle.demand.specs.Run.{run}
-use Rattle.demand.specs.Words.{none, isStop, leavesOff, isAsk}
+use Rattle.history.specs.Examples.{plan, quietPlan, recoveryPlan, windowPlan, calling, callingBoth, unreached}
+use Rattle.history.specs.Run.{run}
+use Rattle.history.specs.Words.{none, isStop, leavesOff, isAsk}
 use Rattle.demand.proofs.Holds.{demand3}
-use Rattle.demand.proofs.ExampleClocks.{Dark, lit, clock-for, not-due, too-early}
+use Rattle.demand.proofs.ShownClocks.{Dark, lit, clock-for, not-due, too-early}
 use Rattle.demand.proofs.ExamplePlans.{accepted, quiet-accepted, recovery-accepted, window-accepted}
 
 -- R + P: node 1, woken by a second pulse at the R-th tick, sleeps P ticks later

@@ -22,9 +22,9 @@ use Rattle.bus.specs.declared.Move.{Move}
 use Rattle.bus.specs.declared.Passed.{Passed}
 use Rattle.bus.specs.Passed.{nothing, answered, sending}
 use Rattle.demand.specs.Demand3.{Given, Agreed}
-use Rattle.demand.specs.Examples.{plan, does, ticks, lossless, answering, askingAfter, stopping, takingBack, damaged, refusing}
-use Rattle.demand.specs.Run.{run}
-use Rattle.demand.specs.Words.{none, trulyGiven, isAnswerOf, isDamaged, isRefusing, isWakeUp, isSending, isStop, ticksIn}
+use Rattle.history.specs.Examples.{plan, does, ticks, lossless, answering, askingAfter, stopping, takingBack, damaged, refusing}
+use Rattle.history.specs.Run.{run}
+use Rattle.history.specs.Words.{none, trulyGiven, isAnswerOf, isDamaged, isRefusing, isWakeUp, isSending, isStop, ticksIn}
 use Rattle.demand.proofs.Holds.{demand3}
 use Rattle.demand.proofs.ExamplePlans.{accepted}
 

@@ -10,11 +10,11 @@ use Rattle.master.specs.Sleeping.{notHeld}
 use Rattle.master.specs.Ticks.{allOlder}
 use Rattle.bus.specs.World.{nodeAt}
 use Rattle.demand.specs.Demand3.{ClockFor, WakesAfter, wakingTime}
-use Rattle.demand.specs.Examples.{plan, waking, failing, failingLater}
-use Rattle.demand.specs.Run.{run}
-use Rattle.demand.specs.Words.{none, leavesOn, reaches}
+use Rattle.history.specs.Examples.{plan, waking, failing, failingLater}
+use Rattle.history.specs.Run.{run}
+use Rattle.history.specs.Words.{none, leavesOn, reaches}
 use Rattle.demand.proofs.Holds.{demand3}
-use Rattle.demand.proofs.ExampleClocks.{Up, down, clock-for, not-owed, too-soon}
+use Rattle.demand.proofs.ShownClocks.{Up, down, clock-for, not-owed, too-soon}
 use Rattle.demand.proofs.ExamplePlans.{accepted}
 
 -- a sleep message that failed reached node 1 just before the first of the ticks: it sleeps at the S-th and is back at S + 2

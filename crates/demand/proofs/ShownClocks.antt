@@ -15,8 +15,8 @@ use Rattle.bus.specs.declared.Move.{Move}
 use Rattle.bus.specs.declared.Passed.{Passed}
 use Rattle.bus.specs.World.{nodeAt}
 use Rattle.demand.specs.Demand3.{ClockFor, SettlesAfter, settlingTime, WakesAfter, wakingTime}
-use Rattle.demand.specs.Run.{run}
-use Rattle.demand.specs.Words.{every, none, ticksIn, leavesOn, leavesOff, isAsk, reaches}
+use Rattle.history.specs.Run.{run}
+use Rattle.history.specs.Words.{every, none, ticksIn, leavesOn, leavesOff, isAsk, reaches}
 use Rattle.demand.proofs.Holds.{demand3}
 
 -- the latest k moves
