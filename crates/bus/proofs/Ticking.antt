@@ -1,6 +1,6 @@
 -- What a tick gives, with a node's pulse or without.
 use Prim.Native.Nat.{ℕ}
-use mathlib.Core.Path.{_≡_, refl, ap, ap₂, sym, _∙_}
+use mathlib.Core.Path.{_≡_, ap, ap₂, sym, _∙_}
 use mathlib.Core.Bool.{Bool, false, _&&_}
 use Rattle.folds.specs.Fold.{pick}
 use Rattle.plan.specs.declared.Times.{Times}

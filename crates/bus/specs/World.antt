@@ -1,6 +1,6 @@
 -- The machines on the bus, and what a move gives.
 use Prim.Native.Nat.{ℕ, min}
-use mathlib.Core.Bool.{Bool, false}
+use mathlib.Core.Bool.{false}
 use mathlib.Core.List.{List, []}
 use lib.ListN.{getD, set, replicate}
 use Rattle.machine.specs.declared.State.{State}

@@ -1,9 +1,8 @@
 -- The plans of the examples are accepted, and their times are what each is there for.
-use Prim.Native.Nat.{ℕ, _+_, _*_, _<_}
+use Prim.Native.Nat.{_+_, _*_, _<_}
 use mathlib.Core.Path.{_≡_, refl}
 use native.Mathlib.Omega.{arith}
 use Rattle.folds.specs.Fold.{allTo, anyTo}
-use Rattle.plan.specs.declared.Times.{Times}
 use Rattle.plan.specs.Rules.{timesRight, entryRight, differs, nodeRight, nodesRight, reqidBefore, rowAfter, rowRight, rowsRight, isFrom, publishes, allPublish, planRefusal}
 use Rattle.demand.specs.Demand3.{settlingTime, wakingTime}
 use Rattle.history.specs.Examples.{plan, quietPlan, recoveryPlan, windowPlan}

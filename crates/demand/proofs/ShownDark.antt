@@ -1,14 +1,13 @@
 -- (b) on computed lists: due at the settling time and not a tick before, by each of its terms; and not where somebody asked to wake.
-use Prim.Native.Nat.{ℕ, _-_, _<_}
+use Prim.Native.Nat.{_-_}
 use mathlib.Core.Path.{_≡_, refl}
-use mathlib.Core.Bool.{Bool, true, false}
+use mathlib.Core.Bool.{true, false}
 use lib.ListN.{getD}
 use native.Mathlib.Omega.{arith}
 use Rattle.folds.specs.Fold.{anyTo, firstTo, tab}
 use Rattle.plan.specs.Find.{hasReqid, rowAmong, findRow}
 use Rattle.master.specs.Sleeping.{notHeld}
 use Rattle.master.specs.Ticks.{allOlder}
-use Rattle.machine.specs.declared.State.{State}
 use Rattle.bus.specs.Passed.{nothing}
 use Rattle.bus.specs.World.{nodeAt}
 use Rattle.demand.specs.Demand3.{ClockFor, SettlesAfter, settlingTime}

@@ -1,7 +1,7 @@
 -- (a) on computed lists: a stop to which all agreed, lists in which somebody takes it back and no stop comes, and the window's edge.
 use Prim.Native.Nat.{ℕ, zero, suc, _≤_, _<_}
-use mathlib.Core.Path.{_≡_, refl, sym, ap, subst, _∙_}
-use mathlib.Core.Bool.{Bool, true, false, not, _&&_}
+use mathlib.Core.Path.{_≡_, refl, sym, ap, _∙_}
+use mathlib.Core.Bool.{Bool, true, false, not}
 use mathlib.Core.List.{List, [], _∷_, _++_}
 use lib.ListN.{getD, take, drop}
 use native.Mathlib.Omega.{arith}
@@ -18,7 +18,6 @@ use Rattle.master.specs.Answers.{isWhole}
 use Rattle.master.specs.Sleeping.{notHeld}
 use Rattle.master.specs.Ticks.{allOlder}
 use Rattle.bus.specs.declared.Act.{Act}
-use Rattle.bus.specs.declared.Move.{Move}
 use Rattle.bus.specs.declared.Passed.{Passed}
 use Rattle.bus.specs.Passed.{nothing, answered, sending}
 use Rattle.demand.specs.Demand3.{Given, Agreed}

@@ -1,7 +1,7 @@
 -- (c) on computed lists: due at S + 2 ticks and not at S + 1; and not where a sleep message reached the node within them.
-use Prim.Native.Nat.{ℕ, _-_, _<_}
+use Prim.Native.Nat.{_-_}
 use mathlib.Core.Path.{_≡_, refl}
-use mathlib.Core.Bool.{Bool, true, false}
+use mathlib.Core.Bool.{true, false}
 use native.Mathlib.Omega.{arith}
 use Rattle.folds.specs.Fold.{anyTo, firstTo, tab}
 use Rattle.plan.specs.Find.{hasReqid, rowAmong, findRow}

@@ -1,5 +1,4 @@
 -- Each word of demand 3 on a computed list on which it is true, and on one a move or a tick away on which it is not.
-use Prim.Native.Nat.{ℕ}
 use mathlib.Core.Path.{_≡_, refl}
 use mathlib.Core.Bool.{Bool, true, false}
 use mathlib.Core.List.{List, [], _∷_, _++_}
@@ -9,12 +8,10 @@ use Rattle.master.specs.Sleeping.{notHeld}
 use Rattle.master.specs.Ticks.{allOlder}
 use Rattle.master.specs.declared.Answer.{Answer}
 use Rattle.bus.specs.declared.Act.{Act}
-use Rattle.bus.specs.declared.Bus.{Bus}
-use Rattle.bus.specs.declared.Fate.{Fate}
 use Rattle.bus.specs.declared.Move.{Move}
 use Rattle.bus.specs.declared.Passed.{Passed}
 use Rattle.bus.specs.Passed.{nothing}
-use Rattle.history.specs.Examples.{plan, lossless, deaf, does, ticks, permitting, answering, asking, result, stopping, damaged, calling, unreached, waking}
+use Rattle.history.specs.Examples.{plan, lossless, does, ticks, permitting, answering, asking, result, stopping, damaged, calling, waking}
 use Rattle.history.specs.Run.{run}
 use Rattle.history.specs.Words.{every, none, masterPermitted, nodePermitted, isAnswerOf, isDamaged, isRefusing, trulyGiven, isWakeUp, isSending, isStop, ticksIn, leavesOn, leavesOff, isAsk, reaches}
 

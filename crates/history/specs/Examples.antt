@@ -8,7 +8,6 @@ use Rattle.plan.specs.declared.Times.{Times}
 use Rattle.plan.specs.Record.{zeroEntry, zeroRow}
 use Rattle.bus.specs.declared.Act.{Act}
 use Rattle.bus.specs.declared.Bus.{Bus}
-use Rattle.bus.specs.declared.Damage.{Damage}
 use Rattle.bus.specs.declared.Fate.{Fate}
 use Rattle.bus.specs.declared.Move.{Move}
 

@@ -1,9 +1,8 @@
 -- The rows in the bytes: looked up, and judged one after the other.
-use Prim.Native.Nat.{ℕ, _+_, _<_, _≤_}
-use mathlib.Core.Path.{_≡_, refl, ap, sym, _∙_}
+use Prim.Native.Nat.{ℕ, _+_, _<_}
+use mathlib.Core.Path.{_≡_, ap, sym, _∙_}
 use mathlib.Core.Bool.{Bool, true, false}
 use mathlib.Core.List.{List}
-use native.Mathlib.Omega.{arith}
 use Rattle.folds.specs.Fold.{allTo, anyTo}
 use Rattle.folds.proofs.Tables.{getD-tab}
 use Rattle.blocks.specs.Bytes.{number}

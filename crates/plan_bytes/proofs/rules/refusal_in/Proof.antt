@@ -1,12 +1,11 @@
 -- By the tests, in their order. Assumes nothing.
-use Prim.Native.Nat.{_≤_, _<_}
-use mathlib.Core.Path.{_≡_, ap, ap₂, sym, _∙_}
+use mathlib.Core.Path.{ap, ap₂, sym, _∙_}
 use mathlib.Core.Bool.{true, false}
 use native.Mathlib.Omega.{arith}
 use borrow.Author.Tests.{not-true, not-false}
 use Rattle.folds.specs.Fold.{allTo}
-use Rattle.plan.specs.Rules.{timesRight, nodeRight, nodesRight}
-use Rattle.reader.specs.Record.{nodesIn, rowsIn, planIn}
+use Rattle.plan.specs.Rules.{timesRight, nodeRight}
+use Rattle.reader.specs.Record.{planIn}
 use Rattle.plan_bytes.specs.RowsRefusal.{rowsRefusal}
 use Rattle.plan_bytes.proofs.Refusals.{nodes-few, nodes-many, nodes-each, rows-few, rows-many, by-4, by-5, by-6, by-7, by-rows}
 use borrow.Author.Needs.{needs}
