@@ -1,5 +1,5 @@
 # rt proves and builds what has changed; rt ci starts from nothing and gives the verdict.
-.PHONY: run show test bench cases
+.PHONY: run show replay test bench cases
 
 # Document 01's drill: its twelve moves on set T.
 run:
@@ -12,6 +12,12 @@ show:
 	@mkdir -p target
 	@rt check show > target/run.log 2>&1 || { cat target/run.log; exit 1; }
 	@cd examples/set-t && ../../target/bin/show
+
+# The example recording: document 01's drill with the sleep message lost.
+replay:
+	@mkdir -p target
+	@rt check replay > target/run.log 2>&1 || { cat target/run.log; exit 1; }
+	@cd examples/recording && ../../target/bin/replay < moves
 
 # Layout, proofs, must-fail edits and programs, then the C tests and the comparisons on what was built: the last line is the verdict. The
 # gate's own test first.

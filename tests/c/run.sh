@@ -1,6 +1,7 @@
 #!/bin/sh
 # Builds the archive and runs the C tests against it: each export under sanitizers, the comparison with the independent implementation,
-# the header and the symbols, the firmware example. By gcc, and by clang where it is present.
+# the header and the symbols, the firmware example; and the drill and the replay of recorded moves against independent ones. By gcc, and by
+# clang where it is present.
 set -eu
 cd "$(dirname "$0")/../.."
 out=target/c
@@ -18,7 +19,7 @@ last_line() {
 
 mkdir -p $out
 # Proves nothing again after rt ci, but for cxpi, which is proved with its archive.
-rt check drill > $out/log 2>&1 || { cat $out/log; exit 1; }
+rt check drill replay replay_states > $out/log 2>&1 || { cat $out/log; exit 1; }
 rt staticlib cxpi > $out/log 2>&1 || { cat $out/log; exit 1; }
 sh tests/c/symbols.sh $archive include/cxpi.h
 
@@ -58,3 +59,10 @@ for seed in 1 2 3; do
     done
 done
 echo "drill: 600000 lines as the independent drill prints them"
+
+# Recorded moves: the independent bus by lists worked out by hand and by faults that must be found; then the product by the same lists, by
+# the example recording, and against it on two million random moves.
+sh $independent/check_replay.sh
+python3 $independent/check_replay.py target/bin/replay target/bin/replay_states
+(cd examples/recording && ../../target/bin/replay < moves | cmp - stdout)
+sh $independent/compare_moves.sh target/bin/replay target/bin/replay_states
