@@ -5,6 +5,7 @@ use mathlib.Core.Bool.{Bool}
 use lib.ListN.{getD}
 use lib.Dec.{eqb}
 use Rattle.folds.specs.Fold.{tab}
+use Rattle.plan.specs.Limits.{reqids}
 
 -- the byte at an offset, 0 past the end
 abbrev pub byte : List ℕ → ℕ → ℕ
@@ -32,9 +33,9 @@ longNumber s o = number s o * 65536 + number s (o + 2)
 abbrev pub fourBytes : ℕ → List ℕ
 fourBytes x = twoBytes (x / 65536) ++ twoBytes (x % 65536)
 
--- the table of 128 bytes from an offset on
+-- the table of a byte per ReqId from an offset on
 unfoldable pub tableAt : List ℕ → ℕ → List ℕ
-tableAt s start = tab 128 (λ i. byte s (start + i))
+tableAt s start = tab reqids (λ i. byte s (start + i))
 
 -- whether the byte i places after an offset is zero
 abbrev pub isZero : List ℕ → ℕ → ℕ → Bool

@@ -5,6 +5,7 @@ ghost use lib.ListN.{length, replicate};
 ghost use lib.Seq.{sets};
 ghost use Rattle.folds.specs.Fold.{allTo};
 ghost use Rattle.blocks.specs.Bytes.{byte, number, tableAt, isZero, Reach};
+use plan::Row;
 
 pub fn byte_at(bytes: &[u8], offset: usize) -> u8
     ensures { λ r. ⌜ r ≡ byte (now (bytes .entry)) offset ⌝ }
@@ -90,12 +91,12 @@ pub fn put_zeros(buffer: &mut [u8], start: usize, count: usize)
     }
 }
 
-// The table of 128 bytes from an offset on.
-pub fn table_at(bytes: &[u8], start: usize) -> [u8; 128]
+// The table of a byte per ReqId from an offset on.
+pub fn table_at(bytes: &[u8], start: usize) -> [u8; Row::REQIDS]
     ensures { λ r. ⌜ r ≡ tableAt (now (bytes .entry)) start ⌝ }
 {
-    let within = reach(bytes.len(), start, 128);
-    let mut table = [0; 128];
+    let within = reach(bytes.len(), start, Row::REQIDS);
+    let mut table = [0; Row::REQIDS];
     let mut i: usize = 0;
     while i < within {
         table[i] = bytes[start + i];

@@ -10,3 +10,6 @@ pub use bytes::put;
 pub use bytes::put_zeros;
 pub use bytes::table_at;
 pub use check::block_check;
+
+// Bytes of a block.
+pub const BLOCK_LENGTH: usize = 512;

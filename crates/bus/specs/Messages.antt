@@ -10,6 +10,7 @@ use Rattle.machine.specs.State.{isNormal}
 use Rattle.plan.specs.declared.Lookup.{Lookup}
 use Rattle.plan.specs.declared.Plan.{Plan}
 use Rattle.plan.specs.declared.Row.{Row}
+use Rattle.plan.specs.Limits.{reqids, seqCounts}
 use Rattle.plan.specs.Answers.{isPolled}
 use Rattle.plan.specs.Find.{findRow}
 use Rattle.node.specs.declared.Node.{Node}
@@ -38,12 +39,12 @@ use Rattle.bus.specs.World.{nodeAt, withMaster, withNodes, stays}
 -- "damaged (result not 0, ReqId kept, count still 0 to 3)"
 abbrev pub fateRight : Fate → Bool
 fateRight Fate.Whole = true
-fateRight (Fate.Damaged damage) = not (eqb (damage .result) 0) && ltb (damage .count) 4
+fateRight (Fate.Damaged damage) = not (eqb (damage .result) 0) && ltb (damage .count) seqCounts
 fateRight Fate.Lost = true
 
 -- 15 for no such move; "Without clock no request, answer or sleep message moves", 16
 abbrev pub messageRefusal : ℕ → Fate → State → ℕ
-messageRefusal reqid fate master = pick (ltb reqid 128) (pick (fateRight fate) (pick (isNormal master) 0 16) 15) 15
+messageRefusal reqid fate master = pick (ltb reqid reqids) (pick (fateRight fate) (pick (isNormal master) 0 16) 15) 15
 
 -- "an answer reaches the master whole, damaged .. or not at all"
 abbrev pub carried : Fate → Row → NodeCommand.Command → Arrival

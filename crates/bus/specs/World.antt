@@ -4,6 +4,7 @@ use mathlib.Core.Bool.{false}
 use mathlib.Core.List.{List, []}
 use lib.ListN.{getD, set, replicate}
 use Rattle.machine.specs.declared.State.{State}
+use Rattle.plan.specs.Limits.{maxNodes}
 use Rattle.node.specs.declared.Delay.{Delay}
 use Rattle.node.specs.declared.Node.{Node}
 use Rattle.node.specs.Changes as NodeChanges
@@ -15,11 +16,11 @@ use Rattle.bus.specs.Passed.{nothing}
 
 -- "The first starts from power-on"
 abbrev pub powerOn : World
-powerOn = record { master = MasterChanges.powerOn; nodes = replicate 16 NodeChanges.powerOn }
+powerOn = record { master = MasterChanges.powerOn; nodes = replicate maxNodes NodeChanges.powerOn }
 
 -- of so many nodes those that a world has places for: all of an accepted plan's
 abbrev pub nodesUsed : ℕ → ℕ
-nodesUsed nodecount = min nodecount 16
+nodesUsed nodecount = min nodecount maxNodes
 
 -- what a read past the last place gives
 abbrev pub noNode : Node

@@ -6,6 +6,7 @@ use crate::Passed;
 use crate::SendResult;
 use crate::Word;
 use master::Answer;
+use plan::Plan;
 use plan::Row;
 
 fn result_of(sent: bool) -> SendResult
@@ -32,7 +33,7 @@ impl Passed {
             arrival: Arrival::Nothing,
             sending: false,
             result: SendResult::Unknown,
-            slept: [false; 16],
+            slept: [false; Plan::NODES],
         }
     }
 
@@ -94,7 +95,7 @@ impl Passed {
         }
     }
 
-    pub(crate) fn slept(sent: bool, nodes: [bool; 16]) -> Passed
+    pub(crate) fn slept(sent: bool, nodes: [bool; Plan::NODES]) -> Passed
         ensures { λ r. ⌜ r ≡ slept sent nodes ⌝ }
     {
         Passed {

@@ -20,7 +20,7 @@ mod ticks;
 // All machines of a plan; nodes from its number on stay as they are.
 pub struct World {
     pub master: Master,
-    pub nodes: [Node; 16],
+    pub nodes: [Node; Plan::NODES],
 }
 
 pub enum Act {
@@ -62,9 +62,9 @@ pub enum Fate {
 // What the bus does in a move.
 pub struct Bus {
     // the nodes that a request or a sleep message reaches
-    pub reached: [bool; 16],
+    pub reached: [bool; Plan::NODES],
     // the nodes that hear a wake-up pulse of another
-    pub hearing: [bool; 16],
+    pub hearing: [bool; Plan::NODES],
     // whether the master hears a wake-up pulse
     pub master: bool,
     pub fate: Fate,
@@ -111,7 +111,7 @@ pub struct Passed {
     pub sending: bool,
     pub result: SendResult,
     // the nodes that a sleep message reached
-    pub slept: [bool; 16],
+    pub slept: [bool; Plan::NODES],
 }
 
 // What a move gives.
@@ -138,7 +138,7 @@ pub enum Message {
 
 // The nodes after a tick, and those of them that sent a pulse in it.
 pub struct Ticked {
-    pub nodes: [Node; 16],
+    pub nodes: [Node; Plan::NODES],
     pub callers: Callers,
 }
 
@@ -162,7 +162,11 @@ fn stays(world: World, refusal: u8) -> Moved
 fn nodes_used(nodecount: u8) -> u8
     ensures { λ r. ⌜ r ≡ nodesUsed nodecount ⌝ }
 {
-    if nodecount < 16 { nodecount } else { 16 }
+    if (nodecount as usize) < Plan::NODES {
+        nodecount
+    } else {
+        Plan::NODES as u8
+    }
 }
 
 impl World {
@@ -172,7 +176,7 @@ impl World {
         let node = Node::power_on();
         World {
             master: Master::power_on(),
-            nodes: [node; 16],
+            nodes: [node; Plan::NODES],
         }
     }
 

@@ -1,6 +1,7 @@
 // Requests, answers and the sleep message.
 ghost use mathlib.Core.Path.{_≡_};
 ghost use Prim.Native.Nat.{_≤_, _<_};
+ghost use Rattle.plan.specs.Limits.{maxNodes};
 ghost use Rattle.bus.specs.Messages.{fateRight, messageRefusal, carried, unanswered, deliver, publish, requestMove, sendRow, sendAskBy, sendAskMove, sendingBy, sleepAskMove, sendResultMove};
 use crate::Arrival;
 use crate::Bus;
@@ -27,7 +28,7 @@ fn fate_right(fate: Fate) -> bool
 {
     match fate {
         Fate::Whole => true,
-        Fate::Damaged(damage) => !(damage.result == 0) & (damage.count < 4),
+        Fate::Damaged(damage) => !(damage.result == 0) & (damage.count < Row::COUNTS),
         Fate::Lost => true,
     }
 }
@@ -36,7 +37,7 @@ fn fate_right(fate: Fate) -> bool
 fn message_refusal(reqid: u8, fate: Fate, master: State) -> u8
     ensures { λ r. ⌜ r ≡ messageRefusal reqid fate master ⌝ }
 {
-    if reqid < machine::REQIDS {
+    if (reqid as usize) < Row::REQIDS {
         if fate_right(fate) {
             if is_normal(master) { 0 } else { 16 }
         } else {
@@ -131,7 +132,7 @@ fn sending_by(command: master::Command) -> Passed
 impl World {
     // A request of a row reaches the nodes of a set; its publisher, if it is one of them, answers by the one step that it makes.
     fn publish(self, count: u8, row: Row, bus: Bus) -> Moved
-        requires { ⌜ count ≤ 16 ⌝ }
+        requires { ⌜ count ≤ maxNodes ⌝ }
         ensures { λ r. ⌜ r ≡ publish count row bus self ⌝ }
     {
         let publisher = row.publisher;
@@ -164,7 +165,7 @@ impl World {
     }
 
     pub(crate) fn request(self, plan: Plan, count: u8, reqid: u8, bus: Bus) -> Moved
-        requires { ⌜ count ≤ 16 ⌝ }
+        requires { ⌜ count ≤ maxNodes ⌝ }
         ensures { λ r. ⌜ r ≡ requestMove plan count reqid bus self ⌝ }
     {
         let master = self.master;
@@ -182,7 +183,7 @@ impl World {
 
     // A node's own sending of a row.
     fn send(self, node: u8, polled: bool, row: Row, fate: Fate) -> Moved
-        requires { ⌜ node < 16 ⌝ }
+        requires { ⌜ node < maxNodes ⌝ }
         ensures { λ r. ⌜ r ≡ sendRow node polled row fate self ⌝ }
     {
         let mut nodes = self.nodes;
@@ -205,7 +206,7 @@ impl World {
     }
 
     fn send_found(self, node: u8, polled: bool, row: Lookup, fate: Fate) -> Moved
-        requires { ⌜ node < 16 ⌝ }
+        requires { ⌜ node < maxNodes ⌝ }
         ensures { λ r. ⌜ r ≡ sendAskBy node polled fate self row ⌝ }
     {
         match row {
@@ -215,7 +216,7 @@ impl World {
     }
 
     pub(crate) fn send_ask(self, plan: Plan, count: u8, node: u8, reqid: u8, bus: Bus) -> Moved
-        requires { ⌜ count ≤ 16 ⌝ }
+        requires { ⌜ count ≤ maxNodes ⌝ }
         ensures { λ r. ⌜ r ≡ sendAskMove plan count node reqid bus self ⌝ }
     {
         let master = self.master;
@@ -255,7 +256,7 @@ impl World {
     }
 
     pub(crate) fn send_result(self, count: u8, sent: bool, bus: Bus) -> Moved
-        requires { ⌜ count ≤ 16 ⌝ }
+        requires { ⌜ count ≤ maxNodes ⌝ }
         ensures { λ r. ⌜ r ≡ sendResultMove count sent bus self ⌝ }
     {
         let master = self.master;

@@ -1,6 +1,7 @@
 // Moves of the applications: asks to wake and permissions.
 ghost use mathlib.Core.Path.{_≡_};
 ghost use Prim.Native.Nat.{_≤_};
+ghost use Rattle.plan.specs.Limits.{maxNodes};
 ghost use Rattle.bus.specs.Owners.{nodeWakeAsk, masterWakeAsk, nodePermission, masterPermission};
 use crate::Bus;
 use crate::Callers;
@@ -13,7 +14,7 @@ use crate::stays;
 
 impl World {
     pub(crate) fn node_wake_ask(self, count: u8, node: u8, bus: Bus) -> Moved
-        requires { ⌜ count ≤ 16 ⌝ }
+        requires { ⌜ count ≤ maxNodes ⌝ }
         ensures { λ r. ⌜ r ≡ nodeWakeAsk count node bus self ⌝ }
     {
         if node < count {
@@ -52,7 +53,7 @@ impl World {
     }
 
     pub(crate) fn node_permission(self, count: u8, node: u8, permitted: bool) -> Moved
-        requires { ⌜ count ≤ 16 ⌝ }
+        requires { ⌜ count ≤ maxNodes ⌝ }
         ensures { λ r. ⌜ r ≡ nodePermission count node permitted self ⌝ }
     {
         if node < count {

@@ -1,6 +1,7 @@
 // Who sends a wake-up pulse in a move, and messages that reach a set of nodes.
 ghost use mathlib.Core.Path.{_≡_};
 ghost use Prim.Native.Nat.{_≤_};
+ghost use Rattle.plan.specs.Limits.{maxNodes};
 ghost use Rattle.bus.specs.Pulses.{withCaller, anyCalled, otherCalled, receive, reachAll, spread};
 ghost use Rattle.bus.specs.Resting.{ignoresRow, ignores, untouched};
 use crate::Bus;
@@ -11,6 +12,7 @@ use crate::ticks::is_normal;
 use node::Command;
 use node::Node;
 use plan::Lookup;
+use plan::Plan;
 
 pub(crate) fn with_caller(callers: Callers, node: u8, command: Command) -> Callers
     ensures { λ r. ⌜ r ≡ withCaller callers node command ⌝ }
@@ -105,12 +107,12 @@ fn untouched(reached: bool, node: Node, me: u8, message: Message) -> bool
 
 // A message reaches those of the first `count` nodes that are in a set; nodes that it leaves as they are, are not copied.
 pub(crate) fn reach_all(
-    mut nodes: [Node; 16],
+    mut nodes: [Node; Plan::NODES],
     count: u8,
-    reached: [bool; 16],
+    reached: [bool; Plan::NODES],
     message: Message,
-) -> [Node; 16]
-    requires { ⌜ count ≤ 16 ⌝ }
+) -> [Node; Plan::NODES]
+    requires { ⌜ count ≤ maxNodes ⌝ }
     ensures { λ r. ⌜ r ≡ reachAll message reached count nodes ⌝ }
 {
     let mut i: u8 = 0;
@@ -129,7 +131,7 @@ pub(crate) fn reach_all(
 impl World {
     // Pulses reach the others or are lost.
     pub(crate) fn spread(self, count: u8, callers: Callers, bus: Bus) -> World
-        requires { ⌜ count ≤ 16 ⌝ }
+        requires { ⌜ count ≤ maxNodes ⌝ }
         ensures { λ r. ⌜ r ≡ spread count callers bus self ⌝ }
     {
         if any_called(callers) {

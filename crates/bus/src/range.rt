@@ -2,14 +2,16 @@
 ghost use mathlib.Core.Path.{_≡_};
 ghost use Prim.Native.Nat.{_≤_};
 ghost use Rattle.folds.specs.Fold.{allTo};
+ghost use Rattle.plan.specs.Limits.{maxNodes};
 ghost use Rattle.bus.specs.Range.{nodeInRange, worldInRange};
 use crate::World;
 use crate::nodes_used;
 use node::Node;
+use plan::Plan;
 use plan::Times;
 
-fn nodes_in_range(nodes: [Node; 16], count: u8, times: Times) -> bool
-    requires { ⌜ count ≤ 16 ⌝ }
+fn nodes_in_range(nodes: [Node; Plan::NODES], count: u8, times: Times) -> bool
+    requires { ⌜ count ≤ maxNodes ⌝ }
     ensures { λ r. ⌜ r ≡ allTo (nodeInRange times nodes) count ⌝ }
 {
     let mut i: u8 = 0;

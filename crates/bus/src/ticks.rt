@@ -3,6 +3,7 @@ ghost use mathlib.Core.Path.{_≡_};
 ghost use Prim.Native.Nat.{_≤_};
 ghost use Rattle.machine.specs.State.{isNormal};
 ghost use Rattle.master.specs.Clock.{isOff};
+ghost use Rattle.plan.specs.Limits.{maxNodes};
 ghost use Rattle.bus.specs.Resting.{rests};
 ghost use Rattle.bus.specs.Ticks.{tickNodes, tickMove};
 use crate::Bus;
@@ -17,6 +18,7 @@ use machine::State;
 use master::Command;
 use node::Delay;
 use node::Node;
+use plan::Plan;
 use plan::Times;
 
 pub(crate) fn is_normal(state: State) -> bool
@@ -57,8 +59,8 @@ fn rests(node: Node, clock: bool) -> bool
 }
 
 // Nodes that rest, most of them in most ticks, are not copied.
-fn tick_nodes(mut nodes: [Node; 16], count: u8, times: Times, clock: bool) -> Ticked
-    requires { ⌜ count ≤ 16 ⌝ }
+fn tick_nodes(mut nodes: [Node; Plan::NODES], count: u8, times: Times, clock: bool) -> Ticked
+    requires { ⌜ count ≤ maxNodes ⌝ }
     ensures { λ r. ⌜ r ≡ tickNodes times clock count nodes ⌝ }
 {
     let mut callers = Callers::Nobody;
@@ -81,7 +83,7 @@ fn tick_nodes(mut nodes: [Node; 16], count: u8, times: Times, clock: bool) -> Ti
 
 impl World {
     pub(crate) fn tick(self, count: u8, times: Times, bus: Bus) -> Moved
-        requires { ⌜ count ≤ 16 ⌝ }
+        requires { ⌜ count ≤ maxNodes ⌝ }
         ensures { λ r. ⌜ r ≡ tickMove times count bus self ⌝ }
     {
         let master = self.master;

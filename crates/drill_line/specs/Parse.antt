@@ -2,9 +2,10 @@
 use Prim.Native.Nat.{ℕ}
 use mathlib.Core.List.{List, [], _∷_}
 use mathlib.Core.Bool.{Bool, true, false}
-use lib.Dec.{ltb}
+use lib.Dec.{leb, ltb}
 use lib.ListN.{replicate}
 use Rattle.folds.specs.Fold.{pick}
+use Rattle.plan.specs.Limits.{maxNodes, reqids}
 use Rattle.bus.specs.declared.Act.{Act}
 use Rattle.bus.specs.declared.Fate.{Fate}
 use Rattle.bus.specs.declared.Move.{Move}
@@ -60,7 +61,7 @@ permitOf who permission = pick (same permission (ascii "0")) (permitWho who fals
 
 -- "R 0 to 127"
 abbrev pub requestOf : ℕ → FateWord → Line
-requestOf reqid (FateWord.Is fate) = pick (ltb 127 reqid) Line.Bad (Line.Move (Act.Request reqid) true fate)
+requestOf reqid (FateWord.Is fate) = pick (leb reqids reqid) Line.Bad (Line.Move (Act.Request reqid) true fate)
 requestOf reqid FateWord.Unknown = Line.Bad
 
 -- `permit X 0` or `1`; `req R H`
@@ -75,7 +76,7 @@ sendWho Who.Master reqid fate = Line.Bad
 sendWho Who.Nobody reqid fate = Line.Bad
 
 abbrev pub sendOf : Who → ℕ → FateWord → Line
-sendOf who reqid (FateWord.Is fate) = pick (ltb 127 reqid) Line.Bad (sendWho who reqid fate)
+sendOf who reqid (FateWord.Is fate) = pick (leb reqids reqid) Line.Bad (sendWho who reqid fate)
 sendOf who reqid FateWord.Unknown = Line.Bad
 
 -- `send X R H`
@@ -96,4 +97,4 @@ parseLine text nodecount = lineOf (words text) nodecount
 
 -- "Nothing else is lost": all nodes and the master hear every pulse
 abbrev pub onDrillBus : Act → Bool → Fate → Move
-onDrillBus act reached fate = record { act = act; bus = record { reached = replicate 16 reached; hearing = replicate 16 true; master = true; fate = fate } }
+onDrillBus act reached fate = record { act = act; bus = record { reached = replicate maxNodes reached; hearing = replicate maxNodes true; master = true; fate = fate } }

@@ -11,6 +11,8 @@ use bus::Bus;
 use bus::Damage;
 use bus::Fate;
 use bus::Move;
+use plan::Plan;
+use plan::Row;
 
 // What becomes of an answer: H.
 pub enum FateWord {
@@ -237,7 +239,7 @@ fn request(reqid: u16, word: FateWord) -> Line
 {
     match word {
         FateWord::Is(fate) => {
-            if 127 < reqid {
+            if Row::REQIDS <= (reqid as usize) {
                 Line::Bad
             } else {
                 Line::Move(Act::Request(reqid as u8), true, fate)
@@ -274,7 +276,7 @@ fn send(who: Who, reqid: u16, word: FateWord) -> Line
 {
     match word {
         FateWord::Is(fate) => {
-            if 127 < reqid {
+            if Row::REQIDS <= (reqid as usize) {
                 Line::Bad
             } else {
                 send_who(who, reqid as u8, fate)
@@ -362,8 +364,8 @@ pub fn on_drill_bus(act: Act, reached: bool, fate: Fate) -> Move
     Move {
         act,
         bus: Bus {
-            reached: [reached; 16],
-            hearing: [true; 16],
+            reached: [reached; Plan::NODES],
+            hearing: [true; Plan::NODES],
             master: true,
             fate,
         },

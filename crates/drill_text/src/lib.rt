@@ -7,6 +7,7 @@ use bus::World;
 use machine::State;
 use master::Phase;
 use node::Node;
+use plan::Plan;
 use text::append;
 use text::append_decimal;
 
@@ -52,13 +53,13 @@ fn append_node(buffer: &mut [u8], at: usize, state: State, error: bool) -> usize
     }
 }
 
-fn append_nodes(buffer: &mut [u8], at: usize, nodes: [Node; 16], nodecount: u8) -> usize
+fn append_nodes(buffer: &mut [u8], at: usize, nodes: [Node; Plan::NODES], nodecount: u8) -> usize
     ensures { λ r. ⌜ Appended at (nodesText nodes (nodesUsed nodecount)) (now (buffer .entry)) (now (buffer .exit)) r ⌝ }
 {
     let mut k: u8 = 0;
     let mut next = at;
     while k < nodecount {
-        if 16 <= k {
+        if Plan::NODES <= (k as usize) {
             return next;
         }
         let node = nodes[k as usize];

@@ -5,10 +5,11 @@ use mathlib.Core.List.{List}
 use lib.Dec.{ltb}
 use lib.ListN.{getD}
 use Rattle.folds.specs.Fold.{allTo}
+use Rattle.plan.specs.Limits.{reqids}
 
 abbrev pub countBelow : ℕ → List ℕ → ℕ → Bool
 countBelow limit counts reqid = ltb (getD counts reqid 0) limit
 
--- each of the 128 counts lies below a limit
+-- each count of the table lies below a limit
 unfoldable pub countsBelow : ℕ → List ℕ → Bool
-countsBelow limit counts = allTo (countBelow limit counts) 128
+countsBelow limit counts = allTo (countBelow limit counts) reqids

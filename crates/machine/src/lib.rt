@@ -4,6 +4,7 @@ ghost use Prim.Native.Nat.{_≤_};
 ghost use lib.Dec.{ltb, eqb};
 ghost use lib.ListN.{getD, set};
 ghost use Rattle.machine.specs.Counts.{countsBelow};
+use plan::Row;
 
 mod bytes;
 
@@ -18,14 +19,11 @@ pub enum State {
     Sleep,
 }
 
-// ReqIds lie below this.
-pub const REQIDS: u8 = 128;
-
 // The count of a ReqId, 0 past the table.
-pub fn count_of(counts: [u8; 128], reqid: u8) -> u8
+pub fn count_of(counts: [u8; Row::REQIDS], reqid: u8) -> u8
     ensures { λ r. ⌜ r ≡ getD counts reqid 0 ⌝ }
 {
-    if reqid < REQIDS {
+    if (reqid as usize) < Row::REQIDS {
         counts[reqid as usize]
     } else {
         0
@@ -33,10 +31,10 @@ pub fn count_of(counts: [u8; 128], reqid: u8) -> u8
 }
 
 // The table with another count of a ReqId, as it is past the table.
-pub fn with_count(mut counts: [u8; 128], reqid: u8, count: u8) -> [u8; 128]
+pub fn with_count(mut counts: [u8; Row::REQIDS], reqid: u8, count: u8) -> [u8; Row::REQIDS]
     ensures { λ r. ⌜ r ≡ set counts reqid count ⌝ }
 {
-    if reqid < REQIDS {
+    if (reqid as usize) < Row::REQIDS {
         counts[reqid as usize] = count;
     }
     counts
@@ -50,12 +48,12 @@ fn past(count: u8, limit: u8) -> u16
 }
 
 // Whether every count lies below a limit. No exit and no test, so that a loop of vector instructions, or of three for a count, is compiled of it.
-pub fn counts_below(counts: [u8; 128], limit: u8) -> bool
+pub fn counts_below(counts: [u8; Row::REQIDS], limit: u8) -> bool
     ensures { λ r. ⌜ r ≡ countsBelow limit counts ⌝ }
 {
     let mut above: u16 = 0;
     let mut i: usize = 0;
-    while i < 128 {
+    while i < Row::REQIDS {
         above += past(counts[i], limit);
         i += 1;
     }

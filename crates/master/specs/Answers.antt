@@ -7,12 +7,13 @@ use Rattle.folds.specs.Fold.{pick}
 use Rattle.machine.specs.declared.State.{State}
 use Rattle.plan.specs.declared.Row.{Row}
 use Rattle.plan.specs.declared.Lookup.{Lookup}
+use Rattle.plan.specs.Limits.{seqCounts}
 use Rattle.plan.specs.Answers.{masterNumber, isCounted, accepts}
 use Rattle.master.specs.declared.Command.{Command}
 use Rattle.master.specs.declared.Answer.{Answer}
 use Rattle.master.specs.declared.Master.{Master}
 use Rattle.master.specs.declared.Reply.{Reply}
-use Rattle.master.specs.Changes.{withCounts, letGo, letAllGo, hold, callBack, refuse}
+use Rattle.master.specs.Changes.{noCount, withCounts, letGo, letAllGo, hold, callBack, refuse}
 
 -- "Whole: an answer that reached the master with result 0 and a length its row accepts"
 abbrev pub isWhole : Row → Answer → Bool
@@ -22,9 +23,9 @@ isWhole row a = eqb (a .result) 0 && accepts row (a .length)
 abbrev pub damaged : ℕ → ℕ → Master → Reply
 damaged publisher number m = refuse (callBack (letGo publisher m)) number
 
--- "report as lost (count − last − 1) modulo 4, or 0 if last was 4"; 3 is -1 modulo 4
+-- "report as lost (count − last − 1) modulo 4, or 0 if last was 4"
 abbrev pub lostAfter : ℕ → ℕ → ℕ
-lostAfter last count = pick (ltb last 4) ((count + 3 - last) % 4) 0
+lostAfter last count = pick (ltb last noCount) ((count + seqCounts - last - 1) % seqCounts) 0
 
 -- "wake bit 1: let all go, call back. Else permission bit 1: held with age 0. Else let go, call back"
 abbrev pub judged : ℕ → Bool → Bool → Master → Master

@@ -4,6 +4,7 @@ use mathlib.Core.Bool.{Bool, true, false}
 use mathlib.Core.List.{List}
 use lib.ListN.{set, replicate}
 use Rattle.machine.specs.declared.State.{State}
+use Rattle.plan.specs.Limits.{maxNodes, reqids}
 use Rattle.master.specs.declared.Phase.{Phase}
 use Rattle.master.specs.declared.Hold.{Hold}
 use Rattle.master.specs.declared.Command.{Command}
@@ -14,11 +15,15 @@ abbrev pub noHold : Hold
 noHold = record { held = false; age = 0 }
 
 abbrev pub noHolds : List Hold
-noHolds = replicate 16 noHold
+noHolds = replicate maxNodes noHold
 
--- "last count 0 to 3 or 4 for none"
+-- "4 for none": `Master::NO_COUNT`
+abbrev pub noCount : ℕ
+noCount = 4
+
+-- "per ReqId a table of 128 places, last count 0 to 3 or 4 for none"
 abbrev pub noCounts : List ℕ
-noCounts = replicate 128 4
+noCounts = replicate reqids noCount
 
 -- "Power-on: Sleep, nothing held, own permission no, counts 4, numbers 0"
 abbrev pub powerOn : Master

@@ -1,5 +1,5 @@
 -- The limits of the master's fields, by which 11 is judged.
-use Prim.Native.Nat.{ℕ}
+use Prim.Native.Nat.{ℕ, _+_}
 use mathlib.Core.Bool.{Bool, true, false, _&&_}
 use mathlib.Core.List.{List}
 use lib.Dec.{leb, ltb, eqb}
@@ -8,10 +8,11 @@ use Rattle.folds.specs.Fold.{pick, allTo}
 use Rattle.machine.specs.declared.State.{State}
 use Rattle.machine.specs.Counts.{countsBelow}
 use Rattle.plan.specs.declared.Times.{Times}
+use Rattle.plan.specs.Limits.{maxNodes}
 use Rattle.master.specs.declared.Phase.{Phase}
 use Rattle.master.specs.declared.Hold.{Hold}
 use Rattle.master.specs.declared.Master.{Master}
-use Rattle.master.specs.Changes.{noHold}
+use Rattle.master.specs.Changes.{noHold, noCount}
 
 abbrev pub isOpen : Phase → Bool
 isOpen Phase.Open = true
@@ -42,9 +43,9 @@ abbrev pub holdRightAt : ℕ → ℕ → List Hold → ℕ → Bool
 holdRightAt nodecount window holds node = holdRight nodecount window node (getD holds node noHold)
 
 unfoldable pub holdsRight : ℕ → ℕ → List Hold → Bool
-holdsRight nodecount window holds = allTo (holdRightAt nodecount window holds) 16
+holdsRight nodecount window holds = allTo (holdRightAt nodecount window holds) maxNodes
 
 -- "per ReqId a table of 128 places, last count 0 to 3 or 4 for none", and the others; any tick number of 32 bits
 unfoldable pub inRange : ℕ → Times → Master → Bool
 inRange nodecount t m =
-    phaseRight (m .state) (m .phase) && delayRight t (m .state) (m .phase) (m .delay) && countsBelow 5 (m .counts) && holdsRight nodecount (t .window) (m .holds)
+    phaseRight (m .state) (m .phase) && delayRight t (m .state) (m .phase) (m .delay) && countsBelow (noCount + 1) (m .counts) && holdsRight nodecount (t .window) (m .holds)

@@ -6,6 +6,7 @@ use Rattle.folds.specs.Fold.{pick}
 use Rattle.plan.specs.declared.Times.{Times}
 use Rattle.plan.specs.declared.Plan.{Plan}
 use Rattle.plan.specs.declared.Lookup.{Lookup}
+use Rattle.plan.specs.Limits.{reqids, seqCounts}
 use Rattle.plan.specs.Rules.{planRefusal}
 use Rattle.plan.specs.Find.{findRow}
 use Rattle.master.specs.declared.Master.{Master}
@@ -21,7 +22,7 @@ use Rattle.master.specs.Answers.{answerStep}
 -- 15: "an event's count above 3 or ReqId above 127"
 abbrev pub eventRight : Event → Bool
 eventRight Event.Tick = true
-eventRight (Event.Answer a) = ltb (a .reqid) 128 && ltb (a .count) 4
+eventRight (Event.Answer a) = ltb (a .reqid) reqids && ltb (a .count) seqCounts
 eventRight Event.Pulse = true
 eventRight Event.WakeAsk = true
 eventRight (Event.Permission permitted) = true

@@ -7,6 +7,7 @@ use lib.ListN.{getD}
 use Rattle.folds.specs.Fold.{pick, tab}
 use Rattle.machine.specs.declared.State.{State}
 use Rattle.plan.specs.declared.Times.{Times}
+use Rattle.plan.specs.Limits.{maxNodes}
 use Rattle.master.specs.declared.Phase.{Phase}
 use Rattle.master.specs.declared.Hold.{Hold}
 use Rattle.master.specs.declared.Command.{Command}
@@ -22,7 +23,7 @@ abbrev pub olderAt : ℕ → List Hold → ℕ → Hold
 olderAt window holds k = older window (getD holds k noHold)
 
 unfoldable pub allOlder : ℕ → List Hold → List Hold
-allOlder window holds = tab 16 (olderAt window holds)
+allOlder window holds = tab maxNodes (olderAt window holds)
 
 -- "Tick, any state: tick number up by one", which "returns to 0 after 4,294,967,295"
 abbrev pub aged : ℕ → Master → Master

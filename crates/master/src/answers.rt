@@ -18,7 +18,8 @@ fn lost_after(last: u8, count: u8) -> u8
     ensures { λ r. ⌜ r ≡ lostAfter last count ⌝ }
 {
     if last < Master::NO_COUNT {
-        (((count as u16) + 3 - (last as u16)) % 4) as u8
+        let counts = Row::COUNTS as u16;
+        (((count as u16) + counts - (last as u16) - 1) % counts) as u8
     } else {
         0
     }

@@ -7,11 +7,12 @@ ghost use Rattle.master.specs.Ticks.{older, allOlder};
 ghost use Rattle.master.specs.Sleeping.{notHeld};
 use crate::Hold;
 use crate::Master;
+use plan::Plan;
 
-fn with_hold(mut holds: [Hold; 16], node: u8, hold: Hold) -> [Hold; 16]
+fn with_hold(mut holds: [Hold; Plan::NODES], node: u8, hold: Hold) -> [Hold; Plan::NODES]
     ensures { λ r. ⌜ r ≡ set holds node hold ⌝ }
 {
-    if node < 16 {
+    if (node as usize) < Plan::NODES {
         holds[node as usize] = hold;
     }
     holds
@@ -34,12 +35,12 @@ fn older(window: u16, hold: Hold) -> Hold
     }
 }
 
-pub(crate) fn all_older(window: u16, holds: [Hold; 16]) -> [Hold; 16]
+pub(crate) fn all_older(window: u16, holds: [Hold; Plan::NODES]) -> [Hold; Plan::NODES]
     ensures { λ r. ⌜ r ≡ allOlder window holds ⌝ }
 {
-    let mut next = [Master::NO_HOLD; 16];
+    let mut next = [Master::NO_HOLD; Plan::NODES];
     let mut i: usize = 0;
-    while i < 16 {
+    while i < Plan::NODES {
         let hold = holds[i];
         next[i] = older(window, hold);
         i += 1;
@@ -48,12 +49,12 @@ pub(crate) fn all_older(window: u16, holds: [Hold; 16]) -> [Hold; 16]
 }
 
 // The lowest node whose permission is not held, the number of nodes where each is.
-pub(crate) fn first_not_held(holds: [Hold; 16], nodecount: u8) -> u8
+pub(crate) fn first_not_held(holds: [Hold; Plan::NODES], nodecount: u8) -> u8
     ensures { λ r. ⌜ r ≡ firstTo (notHeld holds) nodecount ⌝ }
 {
     let mut i: u8 = 0;
     while i < nodecount {
-        if 16 <= i {
+        if Plan::NODES <= (i as usize) {
             return i;
         }
         let hold = holds[i as usize];
@@ -78,7 +79,7 @@ impl Master {
     pub(crate) fn let_all_go(mut self) -> Master
         ensures { λ r. ⌜ r ≡ letAllGo self ⌝ }
     {
-        self.holds = [Master::NO_HOLD; 16];
+        self.holds = [Master::NO_HOLD; Plan::NODES];
         self
     }
 

@@ -5,6 +5,7 @@ ghost use Rattle.master.specs.Step.{eventRight, rowAsked, actWith, stepW
 use machine::State;
 use plan::Lookup;
 use plan::Plan;
+use plan::Row;
 use plan::Times;
 use plan::plan_refusal;
 
@@ -69,9 +70,9 @@ pub struct Master {
     pub state: State,
     pub phase: Phase,
     pub permission: bool,
-    pub holds: [Hold; 16],
+    pub holds: [Hold; Plan::NODES],
     // the last count per ReqId, NO_COUNT for none
-    pub counts: [u8; 128],
+    pub counts: [u8; Row::REQIDS],
     // ticks in Standby or Closing
     pub delay: u16,
     // the tick number, which returns to 0 after 4,294,967,295
@@ -124,7 +125,7 @@ fn is_right(event: Event) -> bool
     match event {
         Event::Tick => true,
         Event::Answer(answer) => {
-            (answer.reqid < machine::REQIDS) & (answer.count < Master::NO_COUNT)
+            ((answer.reqid as usize) < Row::REQIDS) & (answer.count < Row::COUNTS)
         }
         Event::Pulse => true,
         Event::WakeAsk => true,
@@ -150,7 +151,7 @@ fn row_asked(plan: Plan, event: Event) -> Lookup
 }
 
 impl Master {
-    // Counts lie below this, which stands for no count.
+    // Stands for no count, and lies past each.
     pub const NO_COUNT: u8 = 4;
     // A permission that is not held.
     pub const NO_HOLD: Hold = Hold {
@@ -165,8 +166,8 @@ impl Master {
             state: State::Sleep,
             phase: Phase::Open,
             permission: false,
-            holds: [Master::NO_HOLD; 16],
-            counts: [Master::NO_COUNT; 128],
+            holds: [Master::NO_HOLD; Plan::NODES],
+            counts: [Master::NO_COUNT; Row::REQIDS],
             delay: 0,
             ticks: 0,
         }

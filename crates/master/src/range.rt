@@ -6,6 +6,7 @@ use crate::Master;
 use crate::Phase;
 use machine::State;
 use machine::counts_below;
+use plan::Plan;
 use plan::Times;
 
 fn phase_right(state: State, phase: Phase) -> bool
@@ -53,11 +54,11 @@ fn hold_right(nodecount: u8, window: u16, node: usize, hold: Hold) -> bool
     }
 }
 
-fn holds_right(nodecount: u8, window: u16, holds: [Hold; 16]) -> bool
+fn holds_right(nodecount: u8, window: u16, holds: [Hold; Plan::NODES]) -> bool
     ensures { λ r. ⌜ r ≡ holdsRight nodecount window holds ⌝ }
 {
     let mut i: usize = 0;
-    while i < 16 {
+    while i < Plan::NODES {
         let hold = holds[i];
         if !hold_right(nodecount, window, i, hold) {
             return false;

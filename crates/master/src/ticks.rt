@@ -9,6 +9,8 @@ use crate::commands;
 use crate::holds;
 use crate::silent;
 use machine::State;
+use plan::Plan;
+use plan::Row;
 use plan::Times;
 
 impl Master {
@@ -29,7 +31,7 @@ impl Master {
         Master {
             state: State::Normal,
             phase: Phase::Open,
-            counts: [Master::NO_COUNT; 128],
+            counts: [Master::NO_COUNT; Row::REQIDS],
             delay: 0,
             ..self
         }
@@ -41,7 +43,7 @@ impl Master {
         Master {
             state: State::Sleep,
             phase: Phase::Open,
-            holds: [Master::NO_HOLD; 16],
+            holds: [Master::NO_HOLD; Plan::NODES],
             delay: 0,
             ..self
         }

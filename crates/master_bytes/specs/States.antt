@@ -7,6 +7,7 @@ use lib.Dec.{ltb, eqb}
 use Rattle.folds.specs.Fold.{pick, tab, allTo}
 use Rattle.blocks.specs.Bytes.{byte, number, twoBytes, longNumber, fourBytes, tableAt}
 use Rattle.machine.specs.Bytes.{stateByte, stateOf, flagByte, flagOf}
+use Rattle.plan.specs.Limits.{maxNodes}
 use Rattle.master.specs.declared.Phase.{Phase}
 use Rattle.master.specs.declared.Hold.{Hold}
 use Rattle.master.specs.declared.Master.{Master}
@@ -45,7 +46,7 @@ abbrev pub holdOf : List ℕ → ℕ → Hold
 holdOf s k = holdFrom s (9 + 3 * k)
 
 unfoldable pub holdsOf : List ℕ → List Hold
-holdsOf s = tab 16 (holdOf s)
+holdsOf s = tab maxNodes (holdOf s)
 
 -- 57-184 the last sequence count of each ReqId
 unfoldable pub masterBytes : Master → List ℕ
@@ -56,7 +57,7 @@ flagAt s k = ltb (byte s (9 + 3 * k)) 2
 
 -- "bytes that are no state": another length, a state above 2, a phase above 3, a flag above 1
 unfoldable pub isMaster : List ℕ → Bool
-isMaster s = eqb (length s) 185 && ltb (byte s 0) 3 && ltb (byte s 1) 4 && ltb (byte s 2) 2 && allTo (flagAt s) 16
+isMaster s = eqb (length s) 185 && ltb (byte s 0) 3 && ltb (byte s 1) 4 && ltb (byte s 2) 2 && allTo (flagAt s) maxNodes
 
 abbrev pub masterFrom : List ℕ → Master
 masterFrom s =

@@ -3,6 +3,7 @@ ghost use mathlib.Core.Path.{_≡_};
 ghost use Prim.Native.Nat.{_<_};
 ghost use lib.Seq.{sets};
 ghost use Rattle.folds.specs.Fold.{allTo};
+ghost use Rattle.plan.specs.Limits.{maxNodes};
 ghost use Rattle.master.specs.Changes.{powerOn};
 ghost use Rattle.master_bytes.specs.States.{phaseByte, phaseOf, masterHead, holdsBytes, holdOf, holdsOf, masterBytes, flagAt, isMaster, masterFrom, noMaster, masterOf};
 use blocks::byte_at;
@@ -17,6 +18,8 @@ use machine::state_of;
 use master::Hold;
 use master::Master;
 use master::Phase;
+use plan::Plan;
+use plan::Row;
 
 fn phase_byte(phase: Phase) -> u8
     ensures { λ r. ⌜ r ≡ phaseByte phase ⌝ }
@@ -64,12 +67,12 @@ fn master_head(master: Master) -> [u8; 9]
     ]
 }
 
-fn holds_bytes(holds: [Hold; 16]) -> [u8; 48]
+fn holds_bytes(holds: [Hold; Plan::NODES]) -> [u8; 48]
     ensures { λ r. ⌜ r ≡ holdsBytes holds ⌝ }
 {
     let mut bytes = [0; 48];
     let mut k: usize = 0;
-    while k < 16 {
+    while k < Plan::NODES {
         let hold = holds[k];
         bytes[3 * k] = flag_byte(hold.held);
         bytes[3 * k + 1] = (hold.age / 256) as u8;
@@ -98,18 +101,18 @@ pub fn put_power_on(buffer: &mut [u8])
 {
     let mut front = [0; 57];
     front[0] = state_byte(State::Sleep);
-    let counts = [Master::NO_COUNT; 128];
+    let counts = [Master::NO_COUNT; Row::REQIDS];
     put(buffer, 0, &front[..]);
     put(buffer, 57, &counts[..]);
 }
 
 // Whether each permission has a flag. No exit, so that the loop is compiled to straight code.
 fn flags_right(bytes: &[u8]) -> bool
-    ensures { λ r. ⌜ r ≡ allTo (flagAt (now (bytes .entry))) 16 ⌝ }
+    ensures { λ r. ⌜ r ≡ allTo (flagAt (now (bytes .entry))) maxNodes ⌝ }
 {
     let mut right: bool = true;
     let mut k: usize = 0;
-    while k < 16 {
+    while k < Plan::NODES {
         right = right & (byte_at(bytes, 9 + 3 * k) < 2);
         k += 1;
     }
@@ -127,7 +130,7 @@ fn is_master(bytes: &[u8]) -> bool
 }
 
 fn hold_of(bytes: &[u8], k: usize) -> Hold
-    requires { ⌜ k < 16 ⌝ }
+    requires { ⌜ k < maxNodes ⌝ }
     ensures { λ r. ⌜ r ≡ holdOf (now (bytes .entry)) k ⌝ }
 {
     Hold {
@@ -136,12 +139,12 @@ fn hold_of(bytes: &[u8], k: usize) -> Hold
     }
 }
 
-fn holds_of(bytes: &[u8]) -> [Hold; 16]
+fn holds_of(bytes: &[u8]) -> [Hold; Plan::NODES]
     ensures { λ r. ⌜ r ≡ holdsOf (now (bytes .entry)) ⌝ }
 {
-    let mut holds = [Master::NO_HOLD; 16];
+    let mut holds = [Master::NO_HOLD; Plan::NODES];
     let mut k: usize = 0;
-    while k < 16 {
+    while k < Plan::NODES {
         holds[k] = hold_of(bytes, k);
         k += 1;
     }

@@ -1,10 +1,11 @@
 -- A node's power-on, the entering of its states, single changes, and replies.
-use Prim.Native.Nat.{ℕ, _+_}
+use Prim.Native.Nat.{ℕ, _+_, _-_}
 use mathlib.Core.Bool.{Bool, true, false}
 use lib.Dec.{ltb}
 use lib.ListN.{getD, set, replicate}
 use Rattle.folds.specs.Fold.{pick}
 use Rattle.machine.specs.declared.State.{State}
+use Rattle.plan.specs.Limits.{reqids, seqCounts}
 use Rattle.node.specs.declared.Delay.{Delay}
 use Rattle.node.specs.declared.Command.{Command}
 use Rattle.node.specs.declared.Node.{Node}
@@ -23,7 +24,7 @@ asleep permitted =
       quiet = 0;
       delay = Delay.Off;
       standby = 0;
-      counts = replicate 128 0;
+      counts = replicate reqids 0;
     }
 
 -- "Power-on: Sleep (test 1.3), permission no, the rest clear"
@@ -47,7 +48,7 @@ toNormal n =
       quiet = 0;
       delay = Delay.Off;
       standby = 0;
-      counts = replicate 128 0;
+      counts = replicate reqids 0;
     }
 
 -- into Standby, as the caller or not, count 0
@@ -156,9 +157,9 @@ withStandby ticks error n =
       counts = n .counts;
     }
 
--- up by one modulo 4
+-- up by one modulo the number of counts
 abbrev pub nextCount : ℕ → ℕ
-nextCount count = pick (ltb count 3) (count + 1) 0
+nextCount count = pick (ltb count (seqCounts - 1)) (count + 1) 0
 
 -- "then the wake bit goes 0 and that row's count goes up modulo 4"
 abbrev pub afterSending : ℕ → Node → Node

@@ -6,6 +6,7 @@ use Rattle.folds.specs.Fold.{pick}
 use Rattle.machine.specs.declared.State.{State}
 use Rattle.machine.specs.Counts.{countsBelow}
 use Rattle.plan.specs.declared.Times.{Times}
+use Rattle.plan.specs.Limits.{seqCounts}
 use Rattle.node.specs.declared.Delay.{Delay}
 use Rattle.node.specs.declared.Node.{Node}
 
@@ -22,4 +23,4 @@ standbyRight t State.Standby caller ticks = pick caller (leb ticks (2 * t .recov
 
 -- "quiet count 0 to E"; "a sequence count 0 to 3 per ReqId"; and the others
 unfoldable pub inRange : Times → Node → Bool
-inRange t n = leb (n .quiet) (t .quiet) && delayRight (t .sleep) (n .delay) && standbyRight t (n .state) (n .caller) (n .standby) && countsBelow 4 (n .counts)
+inRange t n = leb (n .quiet) (t .quiet) && delayRight (t .sleep) (n .delay) && standbyRight t (n .state) (n .caller) (n .standby) && countsBelow seqCounts (n .counts)

@@ -6,6 +6,7 @@ use Rattle.folds.specs.Fold.{pick}
 use Rattle.plan.specs.declared.Times.{Times}
 use Rattle.plan.specs.declared.Plan.{Plan}
 use Rattle.plan.specs.declared.Lookup.{Lookup}
+use Rattle.plan.specs.Limits.{reqids}
 use Rattle.plan.specs.Rules.{planRefusal}
 use Rattle.plan.specs.Answers.{isPolled}
 use Rattle.plan.specs.Find.{findRow}
@@ -25,8 +26,8 @@ eventRight Event.Pulse = true
 eventRight Event.WakeAsk = true
 eventRight (Event.Permission permitted) = true
 eventRight Event.SleepMessage = true
-eventRight (Event.Request reqid) = ltb reqid 128
-eventRight (Event.SendAsk reqid) = ltb reqid 128
+eventRight (Event.Request reqid) = ltb reqid reqids
+eventRight (Event.SendAsk reqid) = ltb reqid reqids
 
 -- the row that an event asks a plan for
 abbrev pub rowAsked : Plan → Event → Lookup

@@ -5,6 +5,7 @@ ghost use Rattle.node.specs.Step.{eventRight, rowAsked, actWith, stepWit
 use machine::State;
 use plan::Lookup;
 use plan::Plan;
+use plan::Row;
 use plan::Times;
 use plan::plan_refusal;
 
@@ -64,7 +65,7 @@ pub struct Node {
     // ticks in Standby
     pub standby: u32,
     // a sequence count per ReqId
-    pub counts: [u8; 128],
+    pub counts: [u8; Row::REQIDS],
 }
 
 pub struct Reply {
@@ -112,8 +113,8 @@ fn is_right(event: Event) -> bool
         Event::WakeAsk => true,
         Event::Permission(_) => true,
         Event::SleepMessage => true,
-        Event::Request(reqid) => reqid < machine::REQIDS,
-        Event::SendAsk(reqid) => reqid < machine::REQIDS,
+        Event::Request(reqid) => (reqid as usize) < Row::REQIDS,
+        Event::SendAsk(reqid) => (reqid as usize) < Row::REQIDS,
     }
 }
 
@@ -134,7 +135,7 @@ fn row_asked(plan: Plan, event: Event) -> Lookup
 
 impl Node {
     // Sequence counts lie below this and follow each other modulo it.
-    pub const COUNTS: u8 = 4;
+    pub const COUNTS: u8 = Row::COUNTS;
 
     pub fn power_on() -> Node
         ensures { λ r. ⌜ r ≡ powerOn ⌝ }
@@ -149,7 +150,7 @@ impl Node {
             quiet: 0,
             delay: Delay::Off,
             standby: 0,
-            counts: [0; 128],
+            counts: [0; Row::REQIDS],
         }
     }
 
@@ -173,7 +174,7 @@ impl Node {
             quiet: 0,
             delay: Delay::Off,
             standby: 0,
-            counts: [0; 128],
+            counts: [0; Row::REQIDS],
             ..self
         }
     }

@@ -7,6 +7,7 @@ use Rattle.folds.proofs.AllAny.{halves}
 use Rattle.folds.proofs.Rules.{none-only}
 use Rattle.plan.specs.declared.Times.{Times}
 use Rattle.plan.specs.declared.Plan.{Plan}
+use Rattle.plan.specs.Limits.{maxNodes, maxRows, leastTime, mostTime}
 use Rattle.plan.specs.Rules.{revisionRight, timesRight, nodesRight, rowsRight, allPublish, planRules, planRefusal}
 
 pub record Accepted (p : Plan) : Type 0 where
@@ -22,11 +23,11 @@ accepted p e =
     let kept = none-only 4 (planRules p) (omega arith) e in
     record { revision = kept 0; times = kept 1; nodes = kept 2; rows = kept 3; published = kept 4 }
 
-pub nodes-few : (p : Plan) → nodesRight p ≡ true → p .nodecount ≤ 16
+pub nodes-few : (p : Plan) → nodesRight p ≡ true → p .nodecount ≤ maxNodes
 unfolding nodesRight
 nodes-few p e = search halves
 
-pub rows-few : (p : Plan) → rowsRight p ≡ true → p .rowcount ≤ 127
+pub rows-few : (p : Plan) → rowsRight p ≡ true → p .rowcount ≤ maxRows
 unfolding rowsRight
 rows-few p e = search halves
 
@@ -34,10 +35,10 @@ pub rows-some : (p : Plan) → rowsRight p ≡ true → 1 ≤ p .rowcount
 unfolding rowsRight
 rows-some p e = search halves
 
--- each time of an accepted plan is at least 1 and at most 30,000
+-- each time of an accepted plan is within its limits
 pub record InTime (t : ℕ) : Type 0 where
-  pub least : 1 ≤ t
-  pub most : t ≤ 30000
+  pub least : leastTime ≤ t
+  pub most : t ≤ mostTime
 
 pub record TimesFit (t : Times) : Type 0 where
   pub window : InTime (t .window)

@@ -12,6 +12,7 @@ use Rattle.folds.proofs.First.{first-none, first-found, first-holds}
 use Rattle.plan.specs.declared.Row.{Row}
 use Rattle.plan.specs.declared.Plan.{Plan}
 use Rattle.plan.specs.declared.Lookup.{Lookup}
+use Rattle.plan.specs.Limits.{maxRows, reqids}
 use Rattle.plan.specs.Record.{rowAt, rowsUsed}
 use Rattle.plan.specs.Find.{hasReqid, rowAmong, findRow}
 use Rattle.plan.specs.Answers.{masterNumber}
@@ -65,7 +66,7 @@ found-row p reqid r e = go (ltb j n) refl
 row-publisher : (n b : ℕ) (r : Row) → rowAfter n b r ≡ true → eqb (r .publisher) masterNumber ≡ false → r .publisher < n
 unfolding rowAfter
 row-publisher n b r e z =
-    let x = ltb b (r .reqid) && leb (r .reqid) 127 in
+    let x = ltb b (r .reqid) && ltb (r .reqid) reqids in
     let y = ltb (r .publisher) n || eqb (r .publisher) masterNumber in
     let h : (ltb (r .publisher) n || eqb (r .publisher) masterNumber) ≡ true = and-r x y (and-l (x && y) (leb (r .kind) 1) e) in
     let q : ltb (r .publisher) n ≡ true = sym (or-false (ltb (r .publisher) n)) ∙ ap (λ w. ltb (r .publisher) n || w) (sym z) ∙ h in
@@ -77,7 +78,7 @@ unfolding rowsRight rowRight
 found-publisher p reqid r ok e n =
     let f = found-row p reqid r e in
     let m = rows-few p (accepted p ok .rows) in
-    let each = and-r (inRange 1 127 (p .rowcount)) (allTo (rowRight (p .nodecount) (p .rows)) (p .rowcount)) (accepted p ok .rows) in
+    let each = and-r (inRange 1 maxRows (p .rowcount)) (allTo (rowRight (p .nodecount) (p .rows)) (p .rowcount)) (accepted p ok .rows) in
     let right : rowAfter (p .nodecount) (reqidBefore (p .rows) (f .place)) (rowAt (p .rows) (f .place)) ≡ true
     = all-at (rowRight (p .nodecount) (p .rows)) (p .rowcount) each (f .place) (omega (arith, f .used, m)) in
     row-publisher (p .nodecount) (reqidBefore (p .rows) (f .place)) r (rw (f .row) at right) n

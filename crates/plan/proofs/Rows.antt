@@ -8,6 +8,7 @@ use borrow.Author.Tests.{ne-eqb}
 use Rattle.folds.specs.Fold.{allTo}
 use Rattle.folds.proofs.AllAny.{all-at, halves}
 use Rattle.plan.specs.declared.Row.{Row}
+use Rattle.plan.specs.Limits.{maxRows, reqids}
 use Rattle.plan.specs.Record.{rowAt}
 use Rattle.plan.specs.Rules.{reqidBefore, rowAfter, rowRight}
 
@@ -18,12 +19,12 @@ reqid-next rows j =
     let e : (j + 1) - 1 ≡ j = omega arith in
     rw (ne-eqb (j + 1) 0 (λ q. omega arith), e)
 
-bounds : (n b : ℕ) (r : Row) → rowAfter n b r ≡ true → (b < r .reqid) × (r .reqid ≤ 127)
+bounds : (n b : ℕ) (r : Row) → rowAfter n b r ≡ true → (b < r .reqid) × (r .reqid < reqids)
 unfolding rowAfter
 bounds n b r e = (search halves, search halves)
 
 -- the ReqId of row j is above j
-rises : (n : ℕ) (rows : List Row) (c : ℕ) → allTo (rowRight n rows) c ≡ true → (j : ℕ) → j < c → (j < rowAt rows j .reqid) × (rowAt rows j .reqid ≤ 127)
+rises : (n : ℕ) (rows : List Row) (c : ℕ) → allTo (rowRight n rows) c ≡ true → (j : ℕ) → j < c → (j < rowAt rows j .reqid) × (rowAt rows j .reqid < reqids)
 unfolding rowRight reqidBefore
 rises n rows c e zero h = bounds n 0 (rowAt rows 0) (all-at (rowRight n rows) c e 0 h)
 rises n rows c e (suc j) h =
@@ -34,6 +35,6 @@ rises n rows c e (suc j) h =
     omega arith
 
 -- so a record's bound of 127 rows refuses nothing that its rows' own rule would take
-pub at-most-127 : (n : ℕ) (rows : List Row) (c : ℕ) → allTo (rowRight n rows) c ≡ true → c ≤ 127
+pub at-most-127 : (n : ℕ) (rows : List Row) (c : ℕ) → allTo (rowRight n rows) c ≡ true → c ≤ maxRows
 at-most-127 n rows zero e = omega arith
 at-most-127 n rows (suc c) e = omega (arith, rises n rows (suc c) e c (omega arith))

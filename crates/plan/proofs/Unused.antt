@@ -13,6 +13,7 @@ use Rattle.folds.proofs.Tables.{getD-tab}
 use Rattle.plan.specs.declared.NodeEntry.{NodeEntry}
 use Rattle.plan.specs.declared.Row.{Row}
 use Rattle.plan.specs.declared.Plan.{Plan}
+use Rattle.plan.specs.Limits.{maxNodes, maxRows}
 use Rattle.plan.specs.Record.{zeroEntry, zeroRow, entryAt, rowAt, rowsUsed, usedEntry, usedRow, unusedZero}
 use Rattle.plan.specs.Rules.{inRange, revisionRight, timesRight, entryRight, differs, nodeRight, nodesRight, reqidBefore, rowAfter, rowRight, rowsRight, isFrom, publishes, allPublish, planRefusal}
 
@@ -29,13 +30,13 @@ unfolding rowRight reqidBefore
 row-ext n rs qs k h = ap₂ (rowAfter n) (ap (λ (r : Row). pick (eqb k 0) 0 (r .reqid)) (h (k - 1) (omega arith))) (h k (omega arith))
 
 module _ (p : Plan) where
-  pub entry-same : (k : ℕ) → k < 16 → k < p .nodecount → entryAt (unusedZero p .nodes) k ≡ entryAt (p .nodes) k
+  pub entry-same : (k : ℕ) → k < maxNodes → k < p .nodecount → entryAt (unusedZero p .nodes) k ≡ entryAt (p .nodes) k
   unfolding unusedZero usedEntry
-  entry-same k m h = getD-tab 16 (usedEntry p) k zeroEntry m ∙ rw (lt-ltb k (p .nodecount) h)
+  entry-same k m h = getD-tab maxNodes (usedEntry p) k zeroEntry m ∙ rw (lt-ltb k (p .nodecount) h)
 
-  pub row-same : (j : ℕ) → j < 127 → j < p .rowcount → rowAt (unusedZero p .rows) j ≡ rowAt (p .rows) j
+  pub row-same : (j : ℕ) → j < maxRows → j < p .rowcount → rowAt (unusedZero p .rows) j ≡ rowAt (p .rows) j
   unfolding unusedZero usedRow
-  row-same j m h = getD-tab 127 (usedRow p) j zeroRow m ∙ rw (lt-ltb j (p .rowcount) h)
+  row-same j m h = getD-tab maxRows (usedRow p) j zeroRow m ∙ rw (lt-ltb j (p .rowcount) h)
 
   -- the rest is asked only where the count has its range
   within : (most : ℕ) (n : ℕ) (a b : Bool) → (n ≤ most → a ≡ b) → (inRange 1 most n && a) ≡ (inRange 1 most n && b)
@@ -48,14 +49,14 @@ module _ (p : Plan) where
   nodes-same : nodesRight (unusedZero p) ≡ nodesRight p
   unfolding nodesRight unusedZero
   nodes-same =
-      within 16 (p .nodecount) _ _
+      within maxNodes (p .nodecount) _ _
       (λ m. all-ext (nodeRight (unusedZero p .nodes)) (nodeRight (p .nodes)) (p .nodecount)
       (λ k h. node-ext (unusedZero p .nodes) (p .nodes) k (λ j q. entry-same j (omega arith) (omega arith))))
 
   rows-same : rowsRight (unusedZero p) ≡ rowsRight p
   unfolding rowsRight unusedZero
   rows-same =
-      within 127 (p .rowcount) _ _
+      within maxRows (p .rowcount) _ _
       (λ m. all-ext (rowRight (p .nodecount) (unusedZero p .rows)) (rowRight (p .nodecount) (p .rows)) (p .rowcount)
       (λ k h. row-ext (p .nodecount) (unusedZero p .rows) (p .rows) k (λ j q. row-same j (omega arith) (omega arith))))
 

@@ -1,4 +1,5 @@
 pub mod Answers
 pub mod Find
+pub mod Limits
 pub mod Record
 pub mod Rules

@@ -4,6 +4,7 @@ use mathlib.Core.List.{List}
 use lib.ListN.{getD, replicate}
 use lib.Dec.{ltb}
 use Rattle.folds.specs.Fold.{pick, tab}
+use Rattle.plan.specs.Limits.{maxNodes, maxRows}
 use Rattle.plan.specs.declared.NodeEntry.{NodeEntry}
 use Rattle.plan.specs.declared.Row.{Row}
 use Rattle.plan.specs.declared.Times.{Times}
@@ -21,7 +22,7 @@ zeroTimes = record { window = 0; stop = 0; sleep = 0; quiet = 0; recovery = 0; s
 
 -- the all-zero record of a refused read
 unfoldable pub zeroPlan : Plan
-zeroPlan = record { revision = 0; nodecount = 0; times = zeroTimes; nodes = replicate 16 zeroEntry; rowcount = 0; rows = replicate 127 zeroRow }
+zeroPlan = record { revision = 0; nodecount = 0; times = zeroTimes; nodes = replicate maxNodes zeroEntry; rowcount = 0; rows = replicate maxRows zeroRow }
 
 abbrev pub entryAt : List NodeEntry → ℕ → NodeEntry
 entryAt nodes k = getD nodes k zeroEntry
@@ -31,7 +32,7 @@ rowAt rows j = getD rows j zeroRow
 
 -- of so many rows those that a record has places for
 abbrev pub rowsUsed : ℕ → ℕ
-rowsUsed count = min count 127
+rowsUsed count = min count maxRows
 
 -- a record with its unused places zero
 unfoldable pub usedEntry : Plan → ℕ → NodeEntry
@@ -42,4 +43,4 @@ usedRow p j = pick (ltb j (p .rowcount)) (rowAt (p .rows) j) zeroRow
 
 unfoldable pub unusedZero : Plan → Plan
 unusedZero p =
-    record { revision = p .revision; nodecount = p .nodecount; times = p .times; nodes = tab 16 (usedEntry p); rowcount = p .rowcount; rows = tab 127 (usedRow p) }
+    record { revision = p .revision; nodecount = p .nodecount; times = p .times; nodes = tab maxNodes (usedEntry p); rowcount = p .rowcount; rows = tab maxRows (usedRow p) }

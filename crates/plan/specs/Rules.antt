@@ -11,6 +11,7 @@ use Rattle.plan.specs.declared.Row.{Row}
 use Rattle.plan.specs.declared.Times.{Times}
 use Rattle.plan.specs.declared.Plan.{Plan}
 use Rattle.plan.specs.Answers.{masterNumber}
+use Rattle.plan.specs.Limits.{maxNodes, maxRows, reqids, leastTime, mostTime}
 use Rattle.plan.specs.Record.{entryAt, rowAt, rowsUsed}
 
 abbrev pub inRange : ℕ → ℕ → ℕ → Bool
@@ -22,7 +23,7 @@ revisionRight p = not (eqb (p .revision) 0)
 
 -- 5: "seven times in ticks of 1 ms, each 1 to 30,000"; "S is at least D"
 abbrev pub timeRight : ℕ → Bool
-timeRight t = inRange 1 30000 t
+timeRight t = inRange leastTime mostTime t
 
 unfoldable pub timesRight : Times → Bool
 timesRight t =
@@ -43,7 +44,7 @@ nodeRight nodes k = entryRight (entryAt nodes k) && allTo (differs nodes k) k
 
 -- 6: "N, nodes, 1 to 16", and each node's entry
 unfoldable pub nodesRight : Plan → Bool
-nodesRight p = inRange 1 16 (p .nodecount) && allTo (nodeRight (p .nodes)) (p .nodecount)
+nodesRight p = inRange 1 maxNodes (p .nodecount) && allTo (nodeRight (p .nodes)) (p .nodecount)
 
 -- the ReqId that row j has to be above: that of the row before, 0 before the first
 unfoldable pub reqidBefore : List Row → ℕ → ℕ
@@ -53,7 +54,7 @@ reqidBefore rows j = pick (eqb j 0) 0 (rowAt rows (j - 1) .reqid)
 -- "1 if it carries a sequence count, else 0"
 unfoldable pub rowAfter : ℕ → ℕ → Row → Bool
 rowAfter nodecount before r =
-    ltb before (r .reqid) && leb (r .reqid) 127 && (ltb (r .publisher) nodecount || eqb (r .publisher) masterNumber) && leb (r .kind) 1
+    ltb before (r .reqid) && ltb (r .reqid) reqids && (ltb (r .publisher) nodecount || eqb (r .publisher) masterNumber) && leb (r .kind) 1
 
 -- a row's bytes as one number, the ReqId lowest and the kind highest
 pub record RowWord (r : Row) (word : ℕ) : Type 0 where
@@ -66,7 +67,7 @@ rowRight nodecount rows j = rowAfter nodecount (reqidBefore rows j) (rowAt rows 
 
 -- 7: "rows in all 1 to 127", and each row
 unfoldable pub rowsRight : Plan → Bool
-rowsRight p = inRange 1 127 (p .rowcount) && allTo (rowRight (p .nodecount) (p .rows)) (p .rowcount)
+rowsRight p = inRange 1 maxRows (p .rowcount) && allTo (rowRight (p .nodecount) (p .rows)) (p .rowcount)
 
 -- 8: "Each node publishes a row at least"
 unfoldable pub isFrom : List Row → ℕ → ℕ → Bool

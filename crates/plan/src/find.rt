@@ -1,14 +1,15 @@
 // The row of a ReqId.
 ghost use mathlib.Core.Path.{_≡_};
 ghost use Prim.Native.Nat.{_≤_};
+ghost use Rattle.plan.specs.Limits.{maxRows};
 ghost use Rattle.plan.specs.Find.{findRow, rowAmong};
 use crate::Lookup;
 use crate::Plan;
 use crate::Row;
 use crate::rules;
 
-fn row_among(rows: [Row; 127], count: usize, reqid: u8) -> Lookup
-    requires { ⌜ count ≤ 127 ⌝ }
+fn row_among(rows: [Row; Plan::ROWS], count: usize, reqid: u8) -> Lookup
+    requires { ⌜ count ≤ maxRows ⌝ }
     ensures { λ r. ⌜ r ≡ rowAmong rows reqid count ⌝ }
 {
     let mut j: usize = 0;

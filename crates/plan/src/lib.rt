@@ -53,9 +53,9 @@ pub struct Plan {
     pub revision: u16,
     pub nodecount: u8,
     pub times: Times,
-    pub nodes: [NodeEntry; 16],
+    pub nodes: [NodeEntry; Plan::NODES],
     pub rowcount: u16,
-    pub rows: [Row; 127],
+    pub rows: [Row; Plan::ROWS],
 }
 
 // What a ReqId's lookup finds.
@@ -64,10 +64,10 @@ pub enum Lookup {
     Missing,
 }
 
-fn method_of(nodes: [NodeEntry; 16], node: u8) -> u8
+fn method_of(nodes: [NodeEntry; Plan::NODES], node: u8) -> u8
     ensures { λ r. ⌜ r ≡ entryAt nodes node .method ⌝ }
 {
-    if node < 16 {
+    if (node as usize) < Plan::NODES {
         nodes[node as usize].method
     } else {
         0
@@ -85,6 +85,11 @@ impl NodeEntry {
 }
 
 impl Times {
+    // Ticks of each time.
+    pub const LEAST: u16 = 1;
+
+    pub const MOST: u16 = 30000;
+
     pub const ZERO: Times = Times {
         window: 0,
         stop: 0,
@@ -97,6 +102,11 @@ impl Times {
 }
 
 impl Row {
+    // ReqIds lie below this.
+    pub const REQIDS: usize = 128;
+    // Sequence counts lie below this and follow each other modulo it.
+    pub const COUNTS: u8 = 4;
+
     pub const ZERO: Row = Row {
         reqid: 0,
         publisher: 0,
@@ -120,6 +130,12 @@ impl Row {
 }
 
 impl Plan {
+    // Nodes at most, and places for them.
+    pub const NODES: usize = 16;
+    // Rows at most, and places for them.
+    pub const ROWS: usize = 127;
+    // Rows at most in a message block.
+    pub const BLOCK_ROWS: u16 = 100;
     // The publisher's number of a row of the master.
     pub const MASTER: u8 = 255;
     // The bytes of a packed record.
@@ -138,8 +154,8 @@ impl Plan {
         ensures { λ r. ⌜ r ≡ zeroPlan ⌝ }
     {
         let times = Times::ZERO;
-        let nodes = [NodeEntry::ZERO; 16];
-        let rows = [Row::ZERO; 127];
+        let nodes = [NodeEntry::ZERO; Plan::NODES];
+        let rows = [Row::ZERO; Plan::ROWS];
         Plan {
             revision: 0,
             nodecount: 0,

@@ -2,6 +2,7 @@
 ghost use mathlib.Core.Path.{_≡_};
 ghost use Prim.Native.Nat.{_≤_, _<_};
 ghost use Rattle.folds.specs.Fold.{allTo, tab};
+ghost use Rattle.plan.specs.Limits.{maxNodes, maxRows};
 ghost use Rattle.plan.specs.Record.{rowsUsed};
 ghost use Rattle.plan.specs.Rules.{inRange, timesRight, entryRight, nodeRight, nodesRight, RowWord, rowAfter, rowRight, rowsRight, publishes, allPublish, planRefusal};
 use crate::NodeEntry;
@@ -18,13 +19,13 @@ fn in_range(least: u16, most: u16, x: u16) -> bool
 pub fn times_right(t: Times) -> bool
     ensures { λ r. ⌜ r ≡ timesRight t ⌝ }
 {
-    in_range(1, 30000, t.window)
-        & in_range(1, 30000, t.stop)
-        & in_range(1, 30000, t.sleep)
-        & in_range(1, 30000, t.quiet)
-        & in_range(1, 30000, t.recovery)
-        & in_range(1, 30000, t.space)
-        & in_range(1, 30000, t.start)
+    in_range(Times::LEAST, Times::MOST, t.window)
+        & in_range(Times::LEAST, Times::MOST, t.stop)
+        & in_range(Times::LEAST, Times::MOST, t.sleep)
+        & in_range(Times::LEAST, Times::MOST, t.quiet)
+        & in_range(Times::LEAST, Times::MOST, t.recovery)
+        & in_range(Times::LEAST, Times::MOST, t.space)
+        & in_range(Times::LEAST, Times::MOST, t.start)
         & (t.stop <= t.sleep)
 }
 
@@ -46,8 +47,8 @@ fn place(k: u8) -> usize
 }
 
 // The addresses so far are marked, so that each is looked up once.
-fn each_node_right(nodes: [NodeEntry; 16], count: usize) -> bool
-    requires { ⌜ count ≤ 16 ⌝ }
+fn each_node_right(nodes: [NodeEntry; Plan::NODES], count: usize) -> bool
+    requires { ⌜ count ≤ maxNodes ⌝ }
     ensures { λ r. ⌜ r ≡ allTo (nodeRight nodes) count ⌝ }
 {
     let mut taken = [false; 256];
@@ -70,15 +71,15 @@ fn each_node_right(nodes: [NodeEntry; 16], count: usize) -> bool
 fn nodes_right(p: Plan) -> bool
     ensures { λ r. ⌜ r ≡ nodesRight p ⌝ }
 {
-    let count = p.nodecount;
+    let count = p.nodecount as usize;
     let nodes = p.nodes;
     if count < 1 {
         return false;
     }
-    if 16 < count {
+    if Plan::NODES < count {
         return false;
     }
-    each_node_right(nodes, count as usize)
+    each_node_right(nodes, count)
 }
 
 // A row as one number, since its four bytes are then loaded at once and judged beside those of other rows.
@@ -98,15 +99,15 @@ pub fn row_after(nodecount: u8, before: u8, row: Row) -> bool
     let reqid = word % 256;
     let publisher = word / 256 % 256;
     ((before as u32) < reqid)
-        & (reqid <= 127)
+        & (reqid < (Row::REQIDS as u32))
         & ((publisher + 1) % 256 <= (nodecount as u32))
         & (word / 16777216 <= 1)
 }
 
 // No exit, so that the loop is compiled to vector instructions. The row is passed, not the rows: an array handed over in a loop is
 // copied in each turn.
-fn each_row_right(nodecount: u8, rows: [Row; 127], count: usize) -> bool
-    requires { ⌜ count ≤ 127 ⌝ }
+fn each_row_right(nodecount: u8, rows: [Row; Plan::ROWS], count: usize) -> bool
+    requires { ⌜ count ≤ maxRows ⌝ }
     ensures { λ r. ⌜ r ≡ allTo (rowRight nodecount rows) count ⌝ }
 {
     let mut right: bool = true;
@@ -125,26 +126,30 @@ fn rows_right(p: Plan) -> bool
     ensures { λ r. ⌜ r ≡ rowsRight p ⌝ }
 {
     let nodecount = p.nodecount;
-    let count = p.rowcount;
+    let count = p.rowcount as usize;
     let rows = p.rows;
     if count < 1 {
         return false;
     }
-    if 127 < count {
+    if Plan::ROWS < count {
         return false;
     }
-    each_row_right(nodecount, rows, count as usize)
+    each_row_right(nodecount, rows, count)
 }
 
 pub(crate) fn rows_used(count: u16) -> usize
-    ensures { λ r. ⌜ (r ≡ rowsUsed count) × (r ≤ 127) ⌝ }
+    ensures { λ r. ⌜ (r ≡ rowsUsed count) × (r ≤ maxRows) ⌝ }
 {
-    if count < 127 { count as usize } else { 127 }
+    if (count as usize) < Plan::ROWS {
+        count as usize
+    } else {
+        Plan::ROWS
+    }
 }
 
 // Which numbers publish one of the rows, in one pass over them.
-fn publishers(rows: [Row; 127], count: usize) -> [bool; 256]
-    requires { ⌜ count ≤ 127 ⌝ }
+fn publishers(rows: [Row; Plan::ROWS], count: usize) -> [bool; 256]
+    requires { ⌜ count ≤ maxRows ⌝ }
     ensures { λ r. ⌜ r ≡ tab 256 (publishes rows count) ⌝ }
 {
     let mut seen = [false; 256];
@@ -157,8 +162,8 @@ fn publishers(rows: [Row; 127], count: usize) -> [bool; 256]
     seen
 }
 
-fn each_publishes(rows: [Row; 127], count: usize, nodecount: u8) -> bool
-    requires { ⌜ count ≤ 127 ⌝ }
+fn each_publishes(rows: [Row; Plan::ROWS], count: usize, nodecount: u8) -> bool
+    requires { ⌜ count ≤ maxRows ⌝ }
     ensures { λ r. ⌜ r ≡ allTo (publishes rows count) nodecount ⌝ }
 {
     let seen = publishers(rows, count);

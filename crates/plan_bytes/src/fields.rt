@@ -5,16 +5,18 @@ ghost use lib.ListN.{length};
 ghost use Rattle.blocks.specs.Bytes.{number};
 ghost use Rattle.plan.specs.Answers.{isPolled};
 ghost use Rattle.plan.specs.Find.{findRow};
+ghost use Rattle.plan.specs.Limits.{maxNodes, maxRows};
 ghost use Rattle.plan.specs.Record.{rowsUsed};
 ghost use Rattle.reader.specs.Record.{recordEntry, recordRow, planIn};
 use blocks::number_at;
 use plan::Lookup;
 use plan::NodeEntry;
+use plan::Plan;
 use plan::Row;
 use plan::Times;
 
 pub(crate) fn entry_at(bytes: &[u8], k: u32) -> NodeEntry
-    requires { ⌜ (length (now bytes) ≡ 591) × (k < 16) ⌝ }
+    requires { ⌜ (length (now bytes) ≡ 591) × (k < maxNodes) ⌝ }
     ensures { λ r. ⌜ r ≡ recordEntry (now (bytes .entry)) k ⌝ }
 {
     let o = (19 + 4 * k) as usize;
@@ -27,7 +29,7 @@ pub(crate) fn entry_at(bytes: &[u8], k: u32) -> NodeEntry
 }
 
 pub(crate) fn row_at(bytes: &[u8], j: u32) -> Row
-    requires { ⌜ (length (now bytes) ≡ 591) × (j < 127) ⌝ }
+    requires { ⌜ (length (now bytes) ≡ 591) × (j < maxRows) ⌝ }
     ensures { λ r. ⌜ r ≡ recordRow (now (bytes .entry)) j ⌝ }
 {
     let o = (83 + 4 * j) as usize;
@@ -64,7 +66,7 @@ pub(crate) fn polled_in(bytes: &[u8], node: u8) -> bool
     requires { ⌜ length (now bytes) ≡ 591 ⌝ }
     ensures { λ r. ⌜ r ≡ isPolled (planIn (now (bytes .entry))) node ⌝ }
 {
-    if node < 16 {
+    if (node as usize) < Plan::NODES {
         entry_at(bytes, node as u32).method == 1
     } else {
         false
@@ -72,10 +74,14 @@ pub(crate) fn polled_in(bytes: &[u8], node: u8) -> bool
 }
 
 fn rows_used(bytes: &[u8]) -> u32
-    ensures { λ r. ⌜ (r ≡ rowsUsed (number (now (bytes .entry)) 3)) × (r ≤ 127) ⌝ }
+    ensures { λ r. ⌜ (r ≡ rowsUsed (number (now (bytes .entry)) 3)) × (r ≤ maxRows) ⌝ }
 {
     let count = number_at(bytes, 3);
-    if count < 127 { count as u32 } else { 127 }
+    if (count as usize) < Plan::ROWS {
+        count as u32
+    } else {
+        Plan::ROWS as u32
+    }
 }
 
 // The first row of a ReqId among the rows in use.

@@ -3,11 +3,13 @@ ghost use mathlib.Core.Path.{_≡_};
 ghost use Prim.Native.Nat.{_≤_, _<_};
 ghost use lib.ListN.{length};
 ghost use Rattle.folds.specs.Fold.{allTo};
+ghost use Rattle.plan.specs.Limits.{maxNodes, maxRows};
 ghost use Rattle.plan.specs.Rules.{nodeRight, planRefusal};
 ghost use Rattle.reader.specs.Record.{nodesIn, rowsIn, planIn};
 ghost use Rattle.plan_bytes.specs.RowsRefusal.{rowsRefusal};
 use crate::fields;
 use blocks::number_at;
+use plan::Plan;
 
 // A byte as an index of a table of 256.
 fn place(k: u8) -> usize
@@ -17,7 +19,7 @@ fn place(k: u8) -> usize
 }
 
 fn each_node_right(bytes: &[u8], count: u32) -> bool
-    requires { ⌜ (length (now bytes) ≡ 591) × (count ≤ 16) ⌝ }
+    requires { ⌜ (length (now bytes) ≡ 591) × (count ≤ maxNodes) ⌝ }
     ensures { λ r. ⌜ r ≡ allTo (nodeRight (nodesIn (now (bytes .entry)))) count ⌝ }
 {
     let mut taken = [false; 256];
@@ -39,7 +41,7 @@ fn each_node_right(bytes: &[u8], count: u32) -> bool
 
 // One pass with an exit: on a 32-bit controller a third fewer instructions than two passes, or than one without exit.
 fn rows_refusal(bytes: &[u8], nodecount: u8, count: u32) -> u8
-    requires { ⌜ (length (now bytes) ≡ 591) × (count ≤ 127) ⌝ }
+    requires { ⌜ (length (now bytes) ≡ 591) × (count ≤ maxRows) ⌝ }
     ensures { λ r. ⌜ r ≡ rowsRefusal (rowsIn (now (bytes .entry))) nodecount count ⌝ }
 {
     let mut seen = [false; 256];
@@ -80,7 +82,7 @@ pub(crate) fn refusal_in(bytes: &[u8]) -> u8
     if nodecount < 1 {
         return 6;
     }
-    if 16 < nodecount {
+    if Plan::NODES < (nodecount as usize) {
         return 6;
     }
     if !each_node_right(bytes, nodecount as u32) {
@@ -90,7 +92,7 @@ pub(crate) fn refusal_in(bytes: &[u8]) -> u8
     if count < 1 {
         return 7;
     }
-    if 127 < count {
+    if Plan::ROWS < (count as usize) {
         return 7;
     }
     rows_refusal(bytes, nodecount, count as u32)

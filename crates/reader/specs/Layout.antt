@@ -10,6 +10,7 @@ use Rattle.plan.specs.declared.NodeEntry.{NodeEntry}
 use Rattle.plan.specs.declared.Row.{Row}
 use Rattle.plan.specs.declared.Times.{Times}
 use Rattle.plan.specs.declared.Plan.{Plan}
+use Rattle.plan.specs.Limits.{maxNodes, maxRows, blockRows}
 use Rattle.plan.specs.Record.{zeroEntry, zeroRow}
 
 -- "seven times in ticks of 1 ms ..: W window, D clock stop, S node sleep, E quiet limit, R wake-up recovery, P wake-up space, C clock start"
@@ -26,7 +27,7 @@ unfoldable pub nodeOf : List ℕ → ℕ → ℕ → NodeEntry
 nodeOf s count k = pick (ltb k count) (entryFrom s (32 + 4 * k)) zeroEntry
 
 unfoldable pub nodesOf : List ℕ → ℕ → List NodeEntry
-nodesOf s count = tab 16 (nodeOf s count)
+nodesOf s count = tab maxNodes (nodeOf s count)
 
 -- "rows of 4 bytes: ReqId ..; publisher ..; length ..; 1 if it carries a sequence count, else 0"
 unfoldable pub rowFrom : List ℕ → ℕ → Row
@@ -34,14 +35,14 @@ rowFrom s o = record { reqid = byte s o; publisher = byte s (o + 1); length = by
 
 -- "from 8, rows": row 100 is the first of the second message block, at 1024 + 8
 unfoldable pub rowPlace : ℕ → ℕ
-rowPlace j = pick (ltb j 100) (520 + 4 * j) (632 + 4 * j)
+rowPlace j = pick (ltb j blockRows) (520 + 4 * j) (632 + 4 * j)
 
 -- "unused places zero"
 unfoldable pub rowOf : List ℕ → ℕ → ℕ → Row
 rowOf s count j = pick (ltb j count) (rowFrom s (rowPlace j)) zeroRow
 
 unfoldable pub rowsOf : List ℕ → ℕ → List Row
-rowsOf s count = tab 127 (rowOf s count)
+rowsOf s count = tab maxRows (rowOf s count)
 
 -- "one or two message blocks"
 abbrev pub oneMessageBlock : List ℕ → Bool
@@ -49,7 +50,7 @@ oneMessageBlock s = eqb (length s) 1024
 
 -- "4 = rows, .. exactly 100 in the first of two"
 unfoldable pub rowcountOf : List ℕ → ℕ
-rowcountOf s = pick (oneMessageBlock s) (byte s 516) (100 + byte s 1028)
+rowcountOf s = pick (oneMessageBlock s) (byte s 516) (blockRows + byte s 1028)
 
 -- "2-3 revision", "4 = N, nodes", "6-19 seven times"
 unfoldable pub planOf : List ℕ → Plan

@@ -8,6 +8,7 @@ use Rattle.blocks.specs.Bytes.{byte, number}
 use Rattle.plan.specs.declared.NodeEntry.{NodeEntry}
 use Rattle.plan.specs.declared.Row.{Row}
 use Rattle.plan.specs.declared.Plan.{Plan}
+use Rattle.plan.specs.Limits.{maxNodes, maxRows}
 use Rattle.plan.specs.Record.{zeroPlan}
 use Rattle.plan.specs.Rules.{planRefusal}
 use Rattle.reader.specs.declared.ReadAnswer.{ReadAnswer}
@@ -22,10 +23,10 @@ abbrev pub recordRow : List ℕ → ℕ → Row
 recordRow s j = rowFrom s (83 + 4 * j)
 
 abbrev pub nodesIn : List ℕ → List NodeEntry
-nodesIn s = tab 16 (recordEntry s)
+nodesIn s = tab maxNodes (recordEntry s)
 
 abbrev pub rowsIn : List ℕ → List Row
-rowsIn s = tab 127 (recordRow s)
+rowsIn s = tab maxRows (recordRow s)
 
 -- 0-1 revision, 2 N, 3-4 number of rows, 5-18 seven times
 abbrev pub planIn : List ℕ → Plan

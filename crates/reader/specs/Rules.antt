@@ -7,7 +7,9 @@ use lib.Dec.{leb, ltb, eqb}
 use Rattle.folds.specs.Fold.{pick, allTo}
 use Rattle.blocks.specs.Bytes.{byte, number}
 use Rattle.blocks.specs.Check.{blockCheck}
+use Rattle.blocks.specs.Limits.{blockLength}
 use Rattle.plan.specs.declared.Plan.{Plan}
+use Rattle.plan.specs.Limits.{blockRows}
 use Rattle.plan.specs.Rules.{inRange, revisionRight, timesRight, nodesRight, rowsRight, allPublish}
 use Rattle.reader.specs.Layout.{oneMessageBlock}
 
@@ -21,7 +23,7 @@ lengthRight s = eqb (length s) 1024 || eqb (length s) 1536
 
 -- 2: "Bytes 510 and 511 hold the check"
 unfoldable pub checkRight : List ℕ → ℕ → Bool
-checkRight s b = eqb (blockCheck s (512 * b)) (number s (512 * b + 510))
+checkRight s b = eqb (blockCheck s (blockLength * b)) (number s (blockLength * b + 510))
 
 unfoldable pub checksRight : List ℕ → Bool
 checksRight s = eachBlock s (checkRight s)
@@ -31,21 +33,21 @@ unfoldable pub blockType : ℕ → ℕ
 blockType b = pick (eqb b 0) 0x50 0x4d
 
 unfoldable pub typeRight : List ℕ → ℕ → Bool
-typeRight s b = eqb (byte s (512 * b)) (blockType b) && eqb (byte s (512 * b + 1)) 1
+typeRight s b = eqb (byte s (blockLength * b)) (blockType b) && eqb (byte s (blockLength * b + 1)) 1
 
 unfoldable pub typesRight : List ℕ → Bool
 typesRight s = eachBlock s (typeRight s)
 
 -- 4: "2-3 the plan's revision"
 unfoldable pub revisionSame : List ℕ → ℕ → Bool
-revisionSame s b = eqb (number s (512 * b + 2)) (number s 2)
+revisionSame s b = eqb (number s (blockLength * b + 2)) (number s 2)
 
 unfoldable pub revisionsSame : List ℕ → Bool
 revisionsSame s = eachBlock s (revisionSame s)
 
 -- 7: "4 = rows, 1 to 100, exactly 100 in the first of two"
 unfoldable pub countsRight : List ℕ → Bool
-countsRight s = inRange 1 100 (byte s 516) && (oneMessageBlock s || eqb (byte s 516) 100 && inRange 1 100 (byte s 1028))
+countsRight s = inRange 1 blockRows (byte s 516) && (oneMessageBlock s || eqb (byte s 516) blockRows && inRange 1 blockRows (byte s 1028))
 
 -- 9: "Unnamed bytes are zero": the offsets that have a name, in the plan block of so many nodes ..
 abbrev pub planNamed : ℕ → ℕ → Bool
@@ -56,7 +58,7 @@ abbrev pub messageNamed : ℕ → ℕ → Bool
 messageNamed rows o = ltb o 5 || leb 8 o && ltb o (8 + 4 * rows) || leb 510 o
 
 unfoldable pub named : List ℕ → ℕ → Bool
-named s o = pick (ltb o 512) (planNamed (byte s 4) o) (messageNamed (byte s (512 * (o / 512) + 4)) (o % 512))
+named s o = pick (ltb o blockLength) (planNamed (byte s 4) o) (messageNamed (byte s (blockLength * (o / blockLength) + 4)) (o % blockLength))
 
 unfoldable pub fillerAt : List ℕ → ℕ → Bool
 fillerAt s o = named s o || eqb (byte s o) 0
@@ -75,7 +77,7 @@ contentRules s p =
 
 -- what the filler's code says of message block b ..
 abbrev pub messageFillerAt : List ℕ → ℕ → ℕ → Bool
-messageFillerAt s b o = fillerAt s (512 * b + o)
+messageFillerAt s b o = fillerAt s (blockLength * b + o)
 
 -- .. and of r, where the filler behind some entries starts, 510 at most
 pub record FillerStart (first count r : ℕ) : Type 0 where

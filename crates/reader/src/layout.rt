@@ -1,6 +1,7 @@
 // The plan record of bytes, whether or not they keep the rules: of a set's, and of a packed record's.
 ghost use mathlib.Core.Path.{_≡_};
 ghost use Prim.Native.Nat.{_<_};
+ghost use Rattle.plan.specs.Limits.{maxNodes, maxRows};
 ghost use Rattle.reader.specs.Layout.{timesFrom, entryFrom, nodeOf, nodesOf, rowcountOf, rowPlace, rowFrom, rowOf, rowsOf, planOf};
 use blocks::byte_at;
 use blocks::number_at;
@@ -37,7 +38,7 @@ fn entry_from(s: &[u8], o: usize) -> NodeEntry
 }
 
 fn node_of(s: &[u8], count: usize, k: usize) -> NodeEntry
-    requires { ⌜ k < 16 ⌝ }
+    requires { ⌜ k < maxNodes ⌝ }
     ensures { λ r. ⌜ r ≡ nodeOf (now (s .entry)) count k ⌝ }
 {
     if k < count {
@@ -47,12 +48,12 @@ fn node_of(s: &[u8], count: usize, k: usize) -> NodeEntry
     }
 }
 
-fn nodes_of(s: &[u8], count: usize) -> [NodeEntry; 16]
+fn nodes_of(s: &[u8], count: usize) -> [NodeEntry; Plan::NODES]
     ensures { λ r. ⌜ r ≡ nodesOf (now (s .entry)) count ⌝ }
 {
-    let mut nodes = [NodeEntry::ZERO; 16];
+    let mut nodes = [NodeEntry::ZERO; Plan::NODES];
     let mut k: usize = 0;
-    while k < 16 {
+    while k < Plan::NODES {
         nodes[k] = node_of(s, count, k);
         k += 1;
     }
@@ -65,18 +66,22 @@ fn rowcount_of(s: &[u8]) -> u16
     if s.len() == 1024 {
         byte_at(s, 516) as u16
     } else {
-        100 + byte_at(s, 1028) as u16
+        Plan::BLOCK_ROWS + byte_at(s, 1028) as u16
     }
 }
 
 fn row_place(j: usize) -> usize
-    requires { ⌜ j < 127 ⌝ }
+    requires { ⌜ j < maxRows ⌝ }
     ensures { λ r. ⌜ (r ≡ rowPlace j) × (r < 4096) ⌝ }
 {
-    if j < 100 { 520 + 4 * j } else { 632 + 4 * j }
+    if j < Plan::BLOCK_ROWS as usize {
+        520 + 4 * j
+    } else {
+        632 + 4 * j
+    }
 }
 
-// One test for four bytes, since this is done 127 times.
+// One test for four bytes, since this is done for each row.
 fn row_from(s: &[u8], o: usize) -> Row
     requires { ⌜ o < 4096 ⌝ }
     ensures { λ r. ⌜ r ≡ rowFrom (now (s .entry)) o ⌝ }
@@ -98,7 +103,7 @@ fn row_from(s: &[u8], o: usize) -> Row
 }
 
 fn row_of(s: &[u8], count: usize, j: usize) -> Row
-    requires { ⌜ j < 127 ⌝ }
+    requires { ⌜ j < maxRows ⌝ }
     ensures { λ r. ⌜ r ≡ rowOf (now (s .entry)) count j ⌝ }
 {
     if j < count {
@@ -108,12 +113,12 @@ fn row_of(s: &[u8], count: usize, j: usize) -> Row
     }
 }
 
-fn rows_of(s: &[u8], count: usize) -> [Row; 127]
+fn rows_of(s: &[u8], count: usize) -> [Row; Plan::ROWS]
     ensures { λ r. ⌜ r ≡ rowsOf (now (s .entry)) count ⌝ }
 {
-    let mut rows = [Row::ZERO; 127];
+    let mut rows = [Row::ZERO; Plan::ROWS];
     let mut j: usize = 0;
-    while j < 127 {
+    while j < Plan::ROWS {
         rows[j] = row_of(s, count, j);
         j += 1;
     }

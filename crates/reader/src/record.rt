@@ -2,6 +2,7 @@
 ghost use mathlib.Core.Path.{_≡_};
 ghost use lib.ListN.{length};
 ghost use Rattle.folds.specs.Fold.{tab};
+ghost use Rattle.plan.specs.Limits.{maxNodes, maxRows};
 ghost use Rattle.reader.specs.Record.{recordEntry, recordRow, recordOf};
 use crate::layout;
 use blocks::byte_at;
@@ -11,13 +12,13 @@ use plan::Plan;
 use plan::Row;
 
 // The length is known, so that each loop is compiled to a copy of its bytes.
-fn record_nodes(bytes: &[u8]) -> [NodeEntry; 16]
+fn record_nodes(bytes: &[u8]) -> [NodeEntry; Plan::NODES]
     requires { ⌜ length (now bytes) ≡ 591 ⌝ }
-    ensures { λ r. ⌜ r ≡ tab 16 (recordEntry (now (bytes .entry))) ⌝ }
+    ensures { λ r. ⌜ r ≡ tab maxNodes (recordEntry (now (bytes .entry))) ⌝ }
 {
-    let mut nodes = [NodeEntry::ZERO; 16];
+    let mut nodes = [NodeEntry::ZERO; Plan::NODES];
     let mut k: usize = 0;
-    while k < 16 {
+    while k < Plan::NODES {
         nodes[k] = NodeEntry {
             address: bytes[19 + 4 * k],
             class: bytes[19 + 4 * k + 1],
@@ -29,13 +30,13 @@ fn record_nodes(bytes: &[u8]) -> [NodeEntry; 16]
     nodes
 }
 
-fn record_rows(bytes: &[u8]) -> [Row; 127]
+fn record_rows(bytes: &[u8]) -> [Row; Plan::ROWS]
     requires { ⌜ length (now bytes) ≡ 591 ⌝ }
-    ensures { λ r. ⌜ r ≡ tab 127 (recordRow (now (bytes .entry))) ⌝ }
+    ensures { λ r. ⌜ r ≡ tab maxRows (recordRow (now (bytes .entry))) ⌝ }
 {
-    let mut rows = [Row::ZERO; 127];
+    let mut rows = [Row::ZERO; Plan::ROWS];
     let mut j: usize = 0;
-    while j < 127 {
+    while j < Plan::ROWS {
         rows[j] = Row {
             reqid: bytes[83 + 4 * j],
             publisher: bytes[83 + 4 * j + 1],

@@ -5,7 +5,9 @@ ghost use Prim.Native.Nat.{_≤_, _<_};
 ghost use Rattle.folds.specs.Fold.{allTo, pick};
 ghost use Rattle.folds.specs.FirstBroken.{firstBroken};
 ghost use Rattle.plan.specs.Rules.{inRange};
+ghost use Rattle.blocks.specs.Limits.{blockLength};
 ghost use Rattle.reader.specs.Rules.{lengthRight, checkRight, checksRight, blockType, typeRight, typesRight, revisionSame, revisionsSame, countsRight, fillerAt, messageFillerAt, fillerRight, FillerStart, shapeRules, contentRules};
+use blocks::BLOCK_LENGTH;
 use blocks::are_zero;
 use blocks::block_check;
 use blocks::byte_at;
@@ -23,7 +25,7 @@ fn check_right(s: &[u8], b: usize) -> bool
     requires { ⌜ b < 3 ⌝ }
     ensures { λ r. ⌜ r ≡ checkRight (now (s .entry)) b ⌝ }
 {
-    block_check(s, 512 * b) == number_at(s, 512 * b + 510)
+    block_check(s, BLOCK_LENGTH * b) == number_at(s, BLOCK_LENGTH * b + 510)
 }
 
 // The first wrong check ends it: checks are most of a read's time.
@@ -52,7 +54,7 @@ fn type_right(s: &[u8], b: usize) -> bool
     requires { ⌜ b < 3 ⌝ }
     ensures { λ r. ⌜ r ≡ typeRight (now (s .entry)) b ⌝ }
 {
-    (byte_at(s, 512 * b) == block_type(b)) & (byte_at(s, 512 * b + 1) == 1)
+    (byte_at(s, BLOCK_LENGTH * b) == block_type(b)) & (byte_at(s, BLOCK_LENGTH * b + 1) == 1)
 }
 
 fn types_right(s: &[u8]) -> bool
@@ -81,7 +83,7 @@ fn revision_same(s: &[u8], b: usize) -> bool
     requires { ⌜ b < 3 ⌝ }
     ensures { λ r. ⌜ r ≡ revisionSame (now (s .entry)) b ⌝ }
 {
-    number_at(s, 512 * b + 2) == number_at(s, 2)
+    number_at(s, BLOCK_LENGTH * b + 2) == number_at(s, 2)
 }
 
 fn revisions_same(s: &[u8]) -> bool
@@ -90,7 +92,7 @@ fn revisions_same(s: &[u8]) -> bool
     revision_same(s, 0) & revision_same(s, 1) & ((s.len() == 1024) | revision_same(s, 2))
 }
 
-fn in_range(least: u8, most: u8, x: u8) -> bool
+fn in_range(least: u16, most: u16, x: u16) -> bool
     ensures { λ r. ⌜ r ≡ inRange least most x ⌝ }
 {
     (least <= x) & (x <= most)
@@ -99,8 +101,10 @@ fn in_range(least: u8, most: u8, x: u8) -> bool
 fn counts_right(s: &[u8]) -> bool
     ensures { λ r. ⌜ r ≡ countsRight (now (s .entry)) ⌝ }
 {
-    in_range(1, 100, byte_at(s, 516))
-        & ((s.len() == 1024) | (byte_at(s, 516) == 100) & in_range(1, 100, byte_at(s, 1028)))
+    let first = byte_at(s, 516) as u16;
+    let second = byte_at(s, 1028) as u16;
+    in_range(1, Plan::BLOCK_ROWS, first)
+        & ((s.len() == 1024) | (first == Plan::BLOCK_ROWS) & in_range(1, Plan::BLOCK_ROWS, second))
 }
 
 // Where the filler behind some entries of 4 bytes starts.
@@ -113,7 +117,7 @@ fn filler_start(first: usize, count: u8) -> usize
 }
 
 fn plan_filler(s: &[u8]) -> bool
-    ensures { λ r. ⌜ r ≡ allTo (fillerAt (now (s .entry))) 512 ⌝ }
+    ensures { λ r. ⌜ r ≡ allTo (fillerAt (now (s .entry))) blockLength ⌝ }
 {
     let start = filler_start(32, byte_at(s, 4));
     are_zero(s, 5, 1) & are_zero(s, 20, 12) & are_zero(s, start, 510 - start)
@@ -121,10 +125,10 @@ fn plan_filler(s: &[u8]) -> bool
 
 fn message_filler(s: &[u8], b: usize) -> bool
     requires { ⌜ (1 ≤ b) × (b < 3) ⌝ }
-    ensures { λ r. ⌜ r ≡ allTo (messageFillerAt (now (s .entry)) b) 512 ⌝ }
+    ensures { λ r. ⌜ r ≡ allTo (messageFillerAt (now (s .entry)) b) blockLength ⌝ }
 {
-    let start = filler_start(8, byte_at(s, 512 * b + 4));
-    are_zero(s, 512 * b + 5, 3) & are_zero(s, 512 * b + start, 510 - start)
+    let start = filler_start(8, byte_at(s, BLOCK_LENGTH * b + 4));
+    are_zero(s, BLOCK_LENGTH * b + 5, 3) & are_zero(s, BLOCK_LENGTH * b + start, 510 - start)
 }
 
 fn filler_right(s: &[u8]) -> bool
@@ -142,7 +146,11 @@ fn filler_right(s: &[u8]) -> bool
 fn with_wrong_count(refusal: u8) -> u8
     ensures { λ r. ⌜ r ≡ pick (inRange 4 6 refusal) refusal 7 ⌝ }
 {
-    if in_range(4, 6, refusal) { refusal } else { 7 }
+    if in_range(4, 6, refusal as u16) {
+        refusal
+    } else {
+        7
+    }
 }
 
 // Rules 4 to 9, of the bytes and their record.

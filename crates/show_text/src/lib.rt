@@ -1,6 +1,7 @@
 // A release set in words.
 ghost use Prim.Native.Nat.{_≤_};
 ghost use Rattle.text.specs.Text.{Appended, Shown, Counts};
+ghost use Rattle.plan.specs.Limits.{maxNodes, maxRows};
 ghost use Rattle.reader.specs.Read.{readSet};
 ghost use Rattle.show_text.specs.Show.{timeLine, wakeUpTimesText, timesText, methodText, classAndMethodText, nodeLine, nodesText, publisherText, countText, lengthAndCountText, rowLine, rowsText, revisionLine, planText, contentRuleText, ruleText, refusalText, answerText};
 use plan::NodeEntry;
@@ -70,8 +71,13 @@ fn append_node(buffer: &mut [u8], at: usize, k: usize, e: NodeEntry) -> usize
     append_class_and_method(buffer, d, e.class, e.method)
 }
 
-fn append_nodes(buffer: &mut [u8], at: usize, nodes: [NodeEntry; 16], count: usize) -> usize
-    requires { ⌜ count ≤ 16 ⌝ }
+fn append_nodes(
+    buffer: &mut [u8],
+    at: usize,
+    nodes: [NodeEntry; Plan::NODES],
+    count: usize,
+) -> usize
+    requires { ⌜ count ≤ maxNodes ⌝ }
     ensures { λ r. ⌜ Appended at (nodesText nodes count) (now (buffer .entry)) (now (buffer .exit)) r ⌝ }
 {
     let mut k: usize = 0;
@@ -125,8 +131,8 @@ fn append_row(buffer: &mut [u8], at: usize, row: Row) -> usize
     append_length_and_count(buffer, d, row.length, row.kind)
 }
 
-fn append_rows(buffer: &mut [u8], at: usize, rows: [Row; 127], count: usize) -> usize
-    requires { ⌜ count ≤ 127 ⌝ }
+fn append_rows(buffer: &mut [u8], at: usize, rows: [Row; Plan::ROWS], count: usize) -> usize
+    requires { ⌜ count ≤ maxRows ⌝ }
     ensures { λ r. ⌜ Appended at (rowsText rows count) (now (buffer .entry)) (now (buffer .exit)) r ⌝ }
 {
     let mut j: usize = 0;
@@ -148,7 +154,7 @@ fn append_revision(buffer: &mut [u8], at: usize, revision: u16) -> usize
 }
 
 fn append_plan(buffer: &mut [u8], at: usize, p: Plan) -> usize
-    requires { ⌜ (p .nodecount ≤ 16) × (p .rowcount ≤ 127) ⌝ }
+    requires { ⌜ (p .nodecount ≤ maxNodes) × (p .rowcount ≤ maxRows) ⌝ }
     ensures { λ r. ⌜ Appended at (planText p) (now (buffer .entry)) (now (buffer .exit)) r ⌝ }
 {
     let times = p.times;
@@ -211,7 +217,7 @@ fn append_refusal(buffer: &mut [u8], at: usize, number: u8) -> usize
 }
 
 fn append_answer(buffer: &mut [u8], at: usize, answer: ReadAnswer) -> usize
-    requires { ⌜ (answer .plan .nodecount ≤ 16) × (answer .plan .rowcount ≤ 127) ⌝ }
+    requires { ⌜ (answer .plan .nodecount ≤ maxNodes) × (answer .plan .rowcount ≤ maxRows) ⌝ }
     ensures { λ r. ⌜ Appended at (answerText answer) (now (buffer .entry)) (now (buffer .exit)) r ⌝ }
 {
     let refusal = answer.refusal;

@@ -6,9 +6,11 @@ use lib.Dec.{leb, ltb, eqb}
 use Rattle.folds.specs.Fold.{pick, tab}
 use Rattle.blocks.specs.Bytes.{highByte, lowByte, twoBytes}
 use Rattle.blocks.specs.Check.{blockCheck}
+use Rattle.blocks.specs.Limits.{blockLength}
 use Rattle.plan.specs.declared.NodeEntry.{NodeEntry}
 use Rattle.plan.specs.declared.Row.{Row}
 use Rattle.plan.specs.declared.Plan.{Plan}
+use Rattle.plan.specs.Limits.{blockRows}
 use Rattle.plan.specs.Record.{entryAt, rowAt}
 use Rattle.plan.specs.Rules.{planRefusal}
 use Rattle.writer.specs.declared.WriteAnswer.{WriteAnswer}
@@ -31,7 +33,7 @@ planByte p o =
 
 -- rows in message block b, 1 or 2: "1 to 100, exactly 100 in the first of two"
 unfoldable pub rowsIn : ℕ → ℕ → ℕ
-rowsIn rowcount b = pick (eqb b 1) (min rowcount 100) (rowcount - 100)
+rowsIn rowcount b = pick (eqb b 1) (min rowcount blockRows) (rowcount - blockRows)
 
 -- the first 8 bytes of a message block: "0 = 4D hex; 1 = 1; 2-3 the plan's revision; 4 = rows"
 unfoldable pub messageHead : ℕ → ℕ → List ℕ
@@ -44,25 +46,25 @@ rowBytes r = r .reqid ∷ r .publisher ∷ r .length ∷ r .kind ∷ []
 unfoldable pub messageByte : Plan → ℕ → ℕ → ℕ
 messageByte p b o =
     pick (ltb o 8) (getD (messageHead (p .revision) (rowsIn (p .rowcount) b)) o 0)
-    (pick (ltb o (8 + 4 * rowsIn (p .rowcount) b)) (getD (rowBytes (rowAt (p .rows) (100 * (b - 1) + (o - 8) / 4))) ((o - 8) % 4) 0)
+    (pick (ltb o (8 + 4 * rowsIn (p .rowcount) b)) (getD (rowBytes (rowAt (p .rows) (blockRows * (b - 1) + (o - 8) / 4))) ((o - 8) % 4) 0)
     0)
 
 -- byte o of the set, checks left 0: "512-byte blocks: one plan block, then one or two message blocks"
 unfoldable pub dataByte : Plan → ℕ → ℕ
-dataByte p o = pick (ltb o 512) (planByte p o) (messageByte p (o / 512) (o % 512))
+dataByte p o = pick (ltb o blockLength) (planByte p o) (messageByte p (o / blockLength) (o % blockLength))
 
 -- 1 to 100 rows make one message block, more make two
 unfoldable pub setLength : ℕ → ℕ
-setLength rowcount = pick (leb rowcount 100) 1024 1536
+setLength rowcount = pick (leb rowcount blockRows) 1024 1536
 
 -- "Bytes 510 and 511 hold the check", that of block b
 unfoldable pub withCheck : List ℕ → ℕ → List ℕ
 withCheck s b =
-    set (set s (512 * b + 510) (highByte (blockCheck s (512 * b)))) (512 * b + 511) (lowByte (blockCheck s (512 * b)))
+    set (set s (blockLength * b + 510) (highByte (blockCheck s (blockLength * b)))) (blockLength * b + 511) (lowByte (blockCheck s (blockLength * b)))
 
 unfoldable pub withChecks : ℕ → List ℕ → List ℕ
 withChecks rowcount s =
-    pick (leb rowcount 100) (withCheck (withCheck s 0) 1) (withCheck (withCheck (withCheck s 0) 1) 2)
+    pick (leb rowcount blockRows) (withCheck (withCheck s 0) 1) (withCheck (withCheck (withCheck s 0) 1) 2)
 
 -- the set of a plan
 unfoldable pub writeSet : Plan → List ℕ

@@ -44,7 +44,7 @@ pub fn write_record(p: Plan, buffer: &mut [u8]) -> u8
     let rows = p.rows;
     let head = record_head(p);
     put(buffer, 0, &head[..]);
-    set_blocks::put_entries(buffer, 19, nodes, 16);
-    set_blocks::put_rows(buffer, rows, 83, 0, 127);
+    set_blocks::put_entries(buffer, 19, nodes, Plan::NODES);
+    set_blocks::put_rows(buffer, rows, 83, 0, Plan::ROWS);
     0
 }

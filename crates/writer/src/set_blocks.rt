@@ -5,8 +5,11 @@ ghost use Prim.Native.Nat.{_+_, _*_, _-_, _≤_, _<_};
 ghost use lib.ListN.{length, drop};
 ghost use Rattle.folds.specs.Fold.{tab};
 ghost use Rattle.blocks.specs.Bytes.{byte};
+ghost use Rattle.blocks.specs.Limits.{blockLength};
+ghost use Rattle.plan.specs.Limits.{maxNodes, maxRows, blockRows};
 ghost use Rattle.writer.specs.Write.{planHead, rowsIn, messageHead, messageByte, dataByte, setLength, withCheck, withChecks};
 ghost use Rattle.writer.specs.Runs.{Put, entryByteAt, rowByteFrom};
+use blocks::BLOCK_LENGTH;
 use blocks::block_check;
 use blocks::put;
 use blocks::put_zeros;
@@ -58,18 +61,26 @@ fn plan_head(p: Plan) -> [u8; 32]
 
 // Rows in message block b, 1 or 2.
 fn rows_in(count: u16, b: usize) -> u16
-    requires { ⌜ (1 ≤ b) × (b < 3) × (count ≤ 127) ⌝ }
-    ensures { λ r. ⌜ (r ≡ rowsIn count b) × (r ≤ 100) × (100 * (b - 1) + r ≤ 127) ⌝ }
+    requires { ⌜ (1 ≤ b) × (b < 3) × (count ≤ maxRows) ⌝ }
+    ensures { λ r. ⌜ (r ≡ rowsIn count b) × (r ≤ blockRows) × (blockRows * (b - 1) + r ≤ maxRows) ⌝ }
 {
     if b == 1 {
-        if count <= 100 { count } else { 100 }
+        if count <= Plan::BLOCK_ROWS {
+            count
+        } else {
+            Plan::BLOCK_ROWS
+        }
     } else {
-        if count <= 100 { 0 } else { count - 100 }
+        if count <= Plan::BLOCK_ROWS {
+            0
+        } else {
+            count - Plan::BLOCK_ROWS
+        }
     }
 }
 
 fn message_head(revision: u16, rowcount: u16, b: usize) -> [u8; 8]
-    requires { ⌜ (1 ≤ b) × (b < 3) × (rowcount ≤ 127) ⌝ }
+    requires { ⌜ (1 ≤ b) × (b < 3) × (rowcount ≤ maxRows) ⌝ }
     ensures { λ r. ⌜ r ≡ messageHead revision (rowsIn rowcount b) ⌝ }
 {
     let rows = rows_in(rowcount, b);
@@ -96,8 +107,13 @@ fn put_four(buffer: &mut [u8], o: usize, v0: u8, v1: u8, v2: u8, v3: u8)
     buffer[o + 3] = v3;
 }
 
-pub(crate) fn put_entries(buffer: &mut [u8], start: usize, nodes: [NodeEntry; 16], count: usize)
-    requires { ⌜ (count ≤ 16) × (start + 4 * count ≤ length (now buffer)) × (start ≤ 2048) ⌝ }
+pub(crate) fn put_entries(
+    buffer: &mut [u8],
+    start: usize,
+    nodes: [NodeEntry; Plan::NODES],
+    count: usize,
+)
+    requires { ⌜ (count ≤ maxNodes) × (start + 4 * count ≤ length (now buffer)) × (start ≤ 2048) ⌝ }
     ensures { λ _. ⌜ Put start (4 * count) (entryByteAt nodes) (now (buffer .entry)) (now (buffer .exit)) ⌝ }
 {
     let mut k: usize = 0;
@@ -118,12 +134,12 @@ pub(crate) fn put_entries(buffer: &mut [u8], start: usize, nodes: [NodeEntry; 16
 // Puts some rows from a first one on.
 pub(crate) fn put_rows(
     buffer: &mut [u8],
-    rows: [Row; 127],
+    rows: [Row; Plan::ROWS],
     start: usize,
     first: usize,
     count: usize,
 )
-    requires { ⌜ (first + count ≤ 127) × (start + 4 * count ≤ length (now buffer)) × (start ≤ 2048) ⌝ }
+    requires { ⌜ (first + count ≤ maxRows) × (start + 4 * count ≤ length (now buffer)) × (start ≤ 2048) ⌝ }
     ensures { λ _. ⌜ Put start (4 * count) (rowByteFrom rows first) (now (buffer .entry)) (now (buffer .exit)) ⌝ }
 {
     let mut j: usize = 0;
@@ -142,8 +158,8 @@ pub(crate) fn put_rows(
 }
 
 fn put_plan(p: Plan, buffer: &mut [u8])
-    requires { ⌜ (p .nodecount ≤ 16) × (512 ≤ length (now buffer)) ⌝ }
-    ensures { λ _. ⌜ Put 0 512 (dataByte p) (now (buffer .entry)) (now (buffer .exit)) ⌝ }
+    requires { ⌜ (p .nodecount ≤ maxNodes) × (blockLength ≤ length (now buffer)) ⌝ }
+    ensures { λ _. ⌜ Put 0 blockLength (dataByte p) (now (buffer .entry)) (now (buffer .exit)) ⌝ }
 {
     let count = p.nodecount as usize;
     let nodes = p.nodes;
@@ -154,44 +170,54 @@ fn put_plan(p: Plan, buffer: &mut [u8])
 }
 
 fn put_message(p: Plan, buffer: &mut [u8], b: usize)
-    requires { ⌜ (p .rowcount ≤ 127) × (1 ≤ b) × (b < 3) × (512 * b + 512 ≤ length (now buffer)) ⌝ }
-    ensures { λ _. ⌜ Put (512 * b) 512 (messageByte p b) (now (buffer .entry)) (now (buffer .exit)) ⌝ }
+    requires { ⌜ (p .rowcount ≤ maxRows) × (1 ≤ b) × (b < 3) × (blockLength * b + blockLength ≤ length (now buffer)) ⌝ }
+    ensures { λ _. ⌜ Put (blockLength * b) blockLength (messageByte p b) (now (buffer .entry)) (now (buffer .exit)) ⌝ }
 {
     let rowcount = p.rowcount;
     let rows = p.rows;
     let count = rows_in(rowcount, b) as usize;
     let head = message_head(p.revision, rowcount, b);
-    put(buffer, 512 * b, &head[..]);
-    put_rows(buffer, rows, 512 * b + 8, 100 * (b - 1), count);
-    put_zeros(buffer, 512 * b + 8 + 4 * count, 504 - 4 * count);
+    put(buffer, BLOCK_LENGTH * b, &head[..]);
+    put_rows(
+        buffer,
+        rows,
+        BLOCK_LENGTH * b + 8,
+        (Plan::BLOCK_ROWS as usize) * (b - 1),
+        count,
+    );
+    put_zeros(buffer, BLOCK_LENGTH * b + 8 + 4 * count, 504 - 4 * count);
 }
 
 // Puts every byte of the set but the checks, which are left 0.
 pub(crate) fn put_data(p: Plan, buffer: &mut [u8])
-    requires { ⌜ (setLength (p .rowcount) ≤ length (now buffer)) × (p .nodecount ≤ 16) × (p .rowcount ≤ 127) ⌝ }
+    requires { ⌜ (setLength (p .rowcount) ≤ length (now buffer)) × (p .nodecount ≤ maxNodes) × (p .rowcount ≤ maxRows) ⌝ }
     ensures { λ _. ⌜ now (buffer .exit) ≡ tab (setLength (p .rowcount)) (dataByte p) ++ drop (setLength (p .rowcount)) (now (buffer .entry)) ⌝ }
 {
     let rowcount = p.rowcount;
     put_plan(p, buffer);
     put_message(p, buffer, 1);
-    if 100 < rowcount {
+    if Plan::BLOCK_ROWS < rowcount {
         put_message(p, buffer, 2);
     }
 }
 
 fn put_check(buffer: &mut [u8], b: usize)
-    requires { ⌜ (b < 3) × (512 * b + 512 ≤ length (now buffer)) ⌝ }
+    requires { ⌜ (b < 3) × (blockLength * b + blockLength ≤ length (now buffer)) ⌝ }
     ensures { λ _. ⌜ now (buffer .exit) ≡ withCheck (now (buffer .entry)) b ⌝ }
 {
-    let check = block_check(&buffer[..], 512 * b);
-    buffer[512 * b + 510] = (check / 256) as u8;
-    buffer[512 * b + 511] = (check % 256) as u8;
+    let check = block_check(&buffer[..], BLOCK_LENGTH * b);
+    buffer[BLOCK_LENGTH * b + 510] = (check / 256) as u8;
+    buffer[BLOCK_LENGTH * b + 511] = (check % 256) as u8;
 }
 
 pub(crate) fn set_length(rowcount: u16) -> usize
     ensures { λ r. ⌜ r ≡ setLength rowcount ⌝ }
 {
-    if rowcount <= 100 { 1024 } else { 1536 }
+    if rowcount <= Plan::BLOCK_ROWS {
+        1024
+    } else {
+        1536
+    }
 }
 
 pub(crate) fn put_checks(rowcount: u16, buffer: &mut [u8])
@@ -200,7 +226,7 @@ pub(crate) fn put_checks(rowcount: u16, buffer: &mut [u8])
 {
     put_check(buffer, 0);
     put_check(buffer, 1);
-    if 100 < rowcount {
+    if Plan::BLOCK_ROWS < rowcount {
         put_check(buffer, 2);
     }
 }

@@ -1,5 +1,5 @@
 use borrow.Author.Needs.{needs}
-use borrow.Author.Tests.{le-ltb, lt-ltb}
+use borrow.Author.Tests.{le-leb, lt-leb}
 use Rattle.drill_line.proofs.send.Statement.{statement}
 use Rattle.drill_line.proofs.send.Tie as tie
 
@@ -19,7 +19,7 @@ returns : tie.Need-returns
 returns c =
     rw (
       c .before .before .word .given .1,
-      lt-ltb _ _ (c .if1 .taken),
+      le-leb _ _ (c .if1 .taken),
     )
 
 returns-2 : tie.Need-returns-2
@@ -27,7 +27,7 @@ returns-2 c =
     rw (
       c .send-who .ensures,
       c .before .before .before .word .given .1,
-      le-ltb _ _ (c .before .if1 .left),
+      lt-leb _ _ (c .before .if1 .left),
     )
 
 returns-3 : tie.Need-returns-3

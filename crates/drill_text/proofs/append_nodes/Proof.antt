@@ -20,6 +20,9 @@ abbrev μ-loop : tie.MeasureT-loop
 loop-holds : tie.Need-loop-holds Inv-loop μ-loop
 loop-holds c = (search needs, search needs, search needs, refl, search needs, nodes-none _ _ _ (search needs))
 
+cast-if1 : tie.Need-cast-if1 Inv-loop μ-loop
+cast-if1 c = search needs
+
 same-length : tie.Need-same-length Inv-loop μ-loop
 same-length c = search needs
 
@@ -66,6 +69,7 @@ append-nodes-spec =
     Inv-loop
     μ-loop
     loop-holds
+    cast-if1
     same-length
     returns
     cast-node

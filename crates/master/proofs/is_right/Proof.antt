@@ -8,6 +8,9 @@ enum-told c = search needs
 enum-known-event : tie.Need-enum-known-event
 enum-known-event c = search needs
 
+cast-result : tie.Need-cast-result
+cast-result c = search needs
+
 enum-told-2 : tie.Need-enum-told-2
 enum-told-2 c = search needs
 
@@ -50,6 +53,7 @@ is-right-spec =
     (tie.spec
     enum-told
     enum-known-event
+    cast-result
     enum-told-2
     enum-told-3
     enum-told-4

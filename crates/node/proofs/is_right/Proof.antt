@@ -20,8 +20,14 @@ enum-told-5 c = search needs
 enum-known-event : tie.Need-enum-known-event
 enum-known-event c = search needs
 
+cast-result : tie.Need-cast-result
+cast-result c = search needs
+
 enum-known-event-2 : tie.Need-enum-known-event-2
 enum-known-event-2 c = search needs
+
+cast-result-2 : tie.Need-cast-result-2
+cast-result-2 c = search needs
 
 returns : tie.Need-returns
 returns c = search needs
@@ -54,7 +60,9 @@ is-right-spec =
     enum-told-4
     enum-told-5
     enum-known-event
+    cast-result
     enum-known-event-2
+    cast-result-2
     returns
     returns-2
     returns-3

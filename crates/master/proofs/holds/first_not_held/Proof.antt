@@ -23,6 +23,9 @@ abbrev μ-loop : tie.MeasureT-loop
 loop-holds : tie.Need-loop-holds Inv-loop μ-loop
 loop-holds c = (search needs, search needs, any-none _)
 
+cast-if1 : tie.Need-cast-if1 Inv-loop μ-loop
+cast-if1 c = search needs
+
 returns : tie.Need-returns Inv-loop μ-loop
 unfolding notHeld
 returns c =
@@ -64,6 +67,7 @@ first-not-held-spec =
     Inv-loop
     μ-loop
     loop-holds
+    cast-if1
     returns
     cast-hold
     mul-hold

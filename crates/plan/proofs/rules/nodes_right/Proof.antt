@@ -5,6 +5,9 @@ use borrow.Author.Needs.{needs}
 use Rattle.plan.proofs.rules.nodes_right.Statement.{statement}
 use Rattle.plan.proofs.rules.nodes_right.Tie as tie
 
+cast-count : tie.Need-cast-count
+cast-count c = search needs
+
 returns : tie.Need-returns
 unfolding nodesRight
 returns c = search (needs, lt-leb, le-leb)
@@ -12,9 +15,6 @@ returns c = search (needs, lt-leb, le-leb)
 returns-2 : tie.Need-returns-2
 unfolding nodesRight
 returns-2 c = search (needs, lt-leb, le-leb)
-
-cast-each-node-right : tie.Need-cast-each-node-right
-cast-each-node-right c = search needs
 
 each-node-right-requires : tie.Need-each-node-right-requires
 each-node-right-requires c κs = search needs
@@ -25,4 +25,4 @@ returns-3 c = search (needs, lt-leb, le-leb)
 
 pub nodes-right-spec : {M : Type 1} → statement M
 nodes-right-spec =
-    tie.close (tie.spec returns returns-2 cast-each-node-right each-node-right-requires returns-3)
+    tie.close (tie.spec cast-count returns returns-2 each-node-right-requires returns-3)

@@ -39,6 +39,9 @@ returns-3 c =
     let p = planIn (c .before .before .before .before .before .before .before .before .args .bytes .now) in
     by-6 p (λ w. c .before .before .before .before .before .if1 .left (c .before .before .before .before .before .before .number-at .ensures ∙ w)) (ap timesRight (sym (c .before .before .before .before .times-in .ensures)) ∙ sym (c .before .before .before .times-right .ensures) ∙ not-false _ (c .before .before .if2 .left)) (nodes-few p (omega (arith, c .before .node-count-in .ensures)))
 
+cast-if4 : tie.Need-cast-if4
+cast-if4 c = search needs
+
 returns-4 : tie.Need-returns-4
 returns-4 c =
     let p = planIn (c .before .before .before .before .before .before .before .before .before .args .bytes .now) in
@@ -62,6 +65,9 @@ returns-6 : tie.Need-returns-6
 returns-6 c =
     let p = planIn (c .before .before .before .before .before .before .before .before .before .before .before .before .before .args .bytes .now) in
     by-7 p (λ w. c .before .before .before .before .before .before .before .before .before .before .if1 .left (c .before .before .before .before .before .before .before .before .before .before .before .number-at .ensures ∙ w)) (ap timesRight (sym (c .before .before .before .before .before .before .before .before .before .times-in .ensures)) ∙ sym (c .before .before .before .before .before .before .before .before .times-right .ensures) ∙ not-false _ (c .before .before .before .before .before .before .before .if2 .left)) (nodes-each p true (omega (arith, c .before .before .before .before .before .before .node-count-in .ensures)) (omega (arith, c .before .before .before .before .before .before .node-count-in .ensures)) (ap (allTo (nodeRight (p .nodes))) (sym (c .before .before .before .before .before .before .node-count-in .ensures)) ∙ sym (c .before .before .before .each-node-right .ensures) ∙ not-false _ (c .before .before .if5 .left))) (rows-few p (omega (arith, c .before .number-at2 .ensures)))
+
+cast-if7 : tie.Need-cast-if7
+cast-if7 c = search needs
 
 returns-7 : tie.Need-returns-7
 returns-7 c =
@@ -90,12 +96,14 @@ refusal-in-spec =
     returns-2
     node-count-in-requires
     returns-3
+    cast-if4
     returns-4
     cast-each-node-right
     each-node-right-requires
     returns-5
     number-at-requires-2
     returns-6
+    cast-if7
     returns-7
     cast-rows-refusal
     rows-refusal-requires

@@ -5,6 +5,9 @@ use borrow.Author.Needs.{needs}
 use Rattle.reader.proofs.layout.row_place.Statement.{statement}
 use Rattle.reader.proofs.layout.row_place.Tie as tie
 
+cast-if1 : tie.Need-cast-if1
+cast-if1 c = search needs
+
 mul-result : tie.Need-mul-result
 mul-result c = search needs
 
@@ -27,4 +30,4 @@ returns-2 c = (rw (le-ltb _ _ (c .if1 .left)), search needs)
 
 pub row-place-spec : {M : Type 1} → statement M
 row-place-spec =
-    tie.close (tie.spec mul-result add-result mul-result-2 add-result-2 returns returns-2)
+    tie.close (tie.spec cast-if1 mul-result add-result mul-result-2 add-result-2 returns returns-2)

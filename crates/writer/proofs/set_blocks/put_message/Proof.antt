@@ -28,6 +28,9 @@ mul-put-rows c = search needs
 add-put-rows : tie.Need-add-put-rows
 add-put-rows c = search needs
 
+cast-put-rows : tie.Need-cast-put-rows
+cast-put-rows c = search needs
+
 sub-put-rows : tie.Need-sub-put-rows
 sub-put-rows c = search needs
 
@@ -77,6 +80,7 @@ put-message-spec =
     put-requires
     mul-put-rows
     add-put-rows
+    cast-put-rows
     sub-put-rows
     mul-put-rows-2
     put-rows-requires
