@@ -29,10 +29,11 @@ test:
 bench:
 	sh tests/c/bench.sh
 
-# Makes the test sets, the machines' cases, the lists of moves, the drill's scripts and what must be printed of them anew, from document 01
+# Makes the test sets, the machines' cases, the lists of moves, recorded moves, the drill's scripts and what must be printed of them anew, from document 01
 # (needs python3).
 cases:
 	python3 tests/sets/make.py
 	python3 tests/machines/make.py
 	python3 tests/runs/make.py
+	python3 tests/replay/make.py
 	python3 tests/drills/make.py

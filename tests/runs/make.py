@@ -6,14 +6,12 @@ worked out by hand from document 01; nothing here calls the product or works a r
 
 The plan: two nodes, each with a row, ReqId 1 and 2; W 3, D 2, S 2, E 1, R 2, P 3, C 1."""
 
-ALL, NONE = 0xFFFF, 0
+import sys
+
+sys.dont_write_bytecode = True
+from records import DAMAGED, FAILED, LOST, NONE, SENT, SLEEP_ASK, TICK, move
+
 args, printed = [], []
-
-
-def move(act, node=0, value=0, fate=0, reached=ALL, hearing=ALL, master=1, result=0, length=0, count=0, permission=0, wake=0):
-    numbers = [(act, 1), (node, 1), (value, 1), (fate, 1), (reached, 2), (hearing, 2), (master, 1), (result, 2), (length, 2)]
-    numbers += [(count, 1), (permission, 1), (wake, 1)]
-    return b"".join(n.to_bytes(size, "big") for n, size in numbers)
 
 
 def case(name, moves, refusal, machines):
@@ -24,26 +22,34 @@ def case(name, moves, refusal, machines):
     printed.append("%s %d %s" % (name, refusal, machines))
 
 
-TICK, SLEEP_ASK, SENT, FAILED = move(0), move(7), move(8, value=1), move(8, value=0)
 WAKE = move(1)
-# All wake up, permit and answer, the first answer of node 0 with the wake bit; the sleep message is sent.
-AWAKE = [WAKE, TICK, move(3, node=0, value=1), move(3, node=1, value=1), move(4, value=1)]
-AWAKE += [move(5, value=1), move(5, value=1), move(5, value=2), SLEEP_ASK]
+# All wake up and permit; the first answer of node 0 has the wake bit.
+PERMITTED = [WAKE, TICK, move(3, node=0, value=1), move(3, node=1, value=1), move(4, value=1), move(5, value=1)]
+# All answer; the sleep message is sent.
+AWAKE = PERMITTED + [move(5, value=1), move(5, value=2), SLEEP_ASK]
 # Node 0 calls and nobody hears; its second pulse, at the R-th tick, wakes node 1.
 CALL, OFF = move(1, hearing=NONE, master=0), move(0, master=0)
-DAMAGED = move(5, value=1, fate=1, result=5)
 ASLEEP = "Sleep Open Sleep Sleep"
 
 case("none", [], 0, ASLEEP)
 case("sending", AWAKE, 0, "Normal Sending Normal Normal")
 case("closing", AWAKE + [SENT, TICK], 0, "Normal Closing Normal Normal")
 case("stopped", AWAKE + [SENT] + 2 * [TICK], 0, ASLEEP)
-case("called_back", AWAKE + [DAMAGED, SENT] + 2 * [TICK], 0, "Normal Open Sleep Sleep")
-case("answer_lost", AWAKE + [SENT, TICK, move(5, value=1, fate=2), TICK], 0, ASLEEP)
+case("called_back", AWAKE + [move(5, value=1, fate=DAMAGED, result=5), SENT] + 2 * [TICK], 0, "Normal Open Sleep Sleep")
+case("answer_lost", AWAKE + [SENT, TICK, move(5, value=1, fate=LOST), TICK], 0, ASLEEP)
 case("settling_4", [CALL] + 4 * [OFF], 0, "Sleep Open Standby! Standby")
 case("settling_5", [CALL] + 5 * [OFF], 0, "Sleep Open Standby! Sleep")
 case("failed_3", AWAKE + [FAILED] + 3 * [TICK], 0, "Normal Open Standby Standby")
 case("failed_4", AWAKE + [FAILED] + 4 * [TICK], 0, "Normal Open Normal Normal")
+# A request that its publisher does not hear: no answer of node 0 is held.
+case("publisher_not_reached", PERMITTED + [move(5, value=1, reached=0b10), move(5, value=2), SLEEP_ASK], 0, "Normal Open Normal Normal")
+# A sleep message that node 1 does not hear. The node permits no more, finds the clock off and shows its error.
+case("one_node_reached", AWAKE + [move(8, value=1, reached=0b01), move(3, node=1, value=0)] + 2 * [TICK], 0, "Sleep Open Sleep Normal!")
+# Both nodes call, unheard; their second pulses, both in the R-th tick, reach each other and the master.
+case("two_callers", [CALL, move(1, node=1, hearing=NONE, master=0), OFF, TICK], 0, "Standby Open Standby Standby")
+# Moves that a bus does not make are refused as 15, and change nothing.
+case("reqid_128", AWAKE + [move(5, value=128)], 0, "Normal Sending Normal Normal")
+case("damaged_with_result_0", AWAKE + [move(5, value=1, fate=DAMAGED, result=0)], 0, "Normal Sending Normal Normal")
 case("no_such_node", [move(1, node=2)], 0, ASLEEP)
 case("half_a_move", [WAKE, TICK[:8]], 15, ASLEEP)
 case("no_act_9", [WAKE, move(9)], 15, ASLEEP)

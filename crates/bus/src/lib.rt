@@ -149,7 +149,8 @@ pub struct Delivered {
     pub passed: Passed,
 }
 
-fn stays(world: World, refusal: u8) -> Moved
+// A move that changes nothing.
+pub fn stays(world: World, refusal: u8) -> Moved
     ensures { λ r. ⌜ r ≡ stays world refusal ⌝ }
 {
     Moved {

@@ -60,15 +60,10 @@ fn run(file: i32, start: Drill) {
 pub fn drill(set: &[u8], file: i32) -> u8
     ensures { λ r. ⌜ r ≡ readSet (now (set .entry)) .refusal ⌝ }
 {
-    let answer = reader::read(set);
+    let answer = set_file::read_plan(set);
     let plan = answer.plan;
-    let refusal = answer.refusal;
-    if refusal == 0 {
+    if answer.refusal == 0 {
         run(file, Drill::start(plan));
-    } else {
-        io::write_all(STDOUT_FILENO, b"set ");
-        io::print_decimal(STDOUT_FILENO, refusal as u64);
-        io::write_all(STDOUT_FILENO, b"\n");
     }
-    refusal
+    answer.refusal
 }

@@ -1,105 +1,52 @@
--- Every move can be said in bytes.
-use Prim.Native.Nat.{ℕ, zero, suc, _+_, _*_, _/_, _%_}
-use mathlib.Core.Path.{_≡_, refl, sym, ap, _∙_}
+-- Every list of moves that fit can be said in bytes, so what `run` promises is promised of each.
+use Prim.Native.Nat.{ℕ, zero, suc, _+_, _*_, _/_, _%_, _^_, _<_}
+use mathlib.Core.Path.{_≡_, refl, sym, ap, ap₂, _∙_}
 use mathlib.Core.Bool.{Bool, true, false, _&&_}
-use mathlib.Core.List.{List, [], _∷_}
+use mathlib.Core.List.{List, [], _∷_, _++_, map}
 use lib.Dec.{leb, ltb, eqb}
-use lib.ListN.{length, getD}
+use lib.ListN.{length, getD, replicate, length-append}
 use native.Mathlib.Omega.{arith}
-use borrow.Author.Tests.{eq-eqb, ne-eqb}
+use native.Mathlib.Nat.{zero-div, pow-succ', div-div-eq-div-mul}
+use borrow.Author.Tests.{eq-eqb, ne-eqb, leb-true}
 use Rattle.folds.proofs.Tables.{tab-of}
+use Rattle.plan.specs.declared.Plan.{Plan}
+use Rattle.plan.specs.Rules.{planRefusal}
 use Rattle.bus.specs.declared.Act.{Act}
-use Rattle.bus.specs.declared.Bus.{Bus}
 use Rattle.bus.specs.declared.Damage.{Damage}
 use Rattle.bus.specs.declared.Fate.{Fate}
 use Rattle.bus.specs.declared.Move.{Move}
-use Rattle.blocks.specs.Bytes.{highByte, lowByte}
-use Rattle.runs.specs.Encoding.{halved, flagAt, flags, actOf, busAt, moveAt, hasFlag, isMove}
+use Rattle.blocks.specs.Bytes.{byte, highByte, lowByte, twoBytes}
+use Rattle.blocks.proofs.Halves.{from-halves}
+use Rattle.history.specs.Run.{run}
+use Rattle.runs.specs.Encode.{bit, maskOf, kindOf, nodeOf, valueOf, fateByte, damageBytes, encode, encodeAll, DamageFits, Fits, AllFit, Says}
+use Rattle.runs.specs.Encoding.{flagAt, flags, actOf, damageOf, fateOf, moveOf, hasFlag, isMove}
+use Rattle.runs.specs.Records.{records, allMoves}
+use Rattle.runs.specs.Runs.{ranTo, runOf}
+use Rattle.runs.proofs.ByRecord.{records-none, records-first}
 
-abbrev bit : Bool → ℕ
-bit true = 1
-bit false = 0
-
-unfoldable pub maskOf : List Bool → ℕ
-maskOf [] = 0
-maskOf (b ∷ set) = bit b + 2 * maskOf set
-
--- halving from the other end
-halved-first : (x i : ℕ) → halved x (suc i) ≡ halved (x / 2) i
-halved-first x zero = refl
-halved-first x (suc i) = ap (λ y. y / 2) (halved-first x i)
-
-halved-none : (i : ℕ) → halved 0 i ≡ 0
-halved-none zero = refl
-halved-none (suc i) = ap (λ y. y / 2) (halved-none i)
+-- a set of nodes is read back from its two bytes
 
 flag-of : (set : List Bool) (i : ℕ) → flagAt (maskOf set) i ≡ getD set i false
 unfolding maskOf
-flag-of [] i = ap (λ y. eqb (y % 2) 1) (halved-none i)
-flag-of (true ∷ set) zero = let e : (1 + 2 * maskOf set) % 2 ≡ 1 = omega arith in eq-eqb _ _ e
-flag-of (false ∷ set) zero = ne-eqb ((0 + 2 * maskOf set) % 2) 1 (λ q. omega arith)
+flag-of [] i = rw zero-div
+flag-of (true ∷ set) zero = let e : (1 + 2 * maskOf set) / 1 % 2 ≡ 1 = omega arith in eq-eqb _ _ e
+flag-of (false ∷ set) zero = ne-eqb ((0 + 2 * maskOf set) / 1 % 2) 1 (λ q. omega arith)
 flag-of (b ∷ set) (suc i) =
-    let e : (bit b + 2 * maskOf set) / 2 ≡ maskOf set = half b in
-    ap (λ y. eqb (y % 2) 1) (halved-first (bit b + 2 * maskOf set) i ∙ ap (λ y. halved y i) e) ∙ flag-of set i
+    ap (λ y. eqb ((bit b + 2 * maskOf set) / y % 2) 1) (pow-succ' 2 i)
+    ∙ ap (λ y. eqb (y % 2) 1) (sym (div-div-eq-div-mul (bit b + 2 * maskOf set) 2 (2 ^ i)) ∙ ap (λ y. y / 2 ^ i) (half b)) ∙ flag-of set i
   where
     half : (c : Bool) → (bit c + 2 * maskOf set) / 2 ≡ maskOf set
     half true = omega arith
     half false = omega arith
 
-flags-of : (set : List Bool) → length set ≡ 16 → flags (maskOf set) ≡ set
-unfolding flags
-flags-of set e = sym (tab-of false 16 (flagAt (maskOf set)) set e (λ i l. sym (flag-of set i)))
-
--- the record of a move
-abbrev kindOf : Act → ℕ
-kindOf Act.Tick = 0
-kindOf (Act.NodeWakeAsk node) = 1
-kindOf Act.MasterWakeAsk = 2
-kindOf (Act.NodePermission node permitted) = 3
-kindOf (Act.MasterPermission permitted) = 4
-kindOf (Act.Request reqid) = 5
-kindOf (Act.SendAsk node reqid) = 6
-kindOf Act.SleepAsk = 7
-kindOf (Act.SendResult sent) = 8
-
-abbrev nodeOf : Act → ℕ
-nodeOf Act.Tick = 0
-nodeOf (Act.NodeWakeAsk node) = node
-nodeOf Act.MasterWakeAsk = 0
-nodeOf (Act.NodePermission node permitted) = node
-nodeOf (Act.MasterPermission permitted) = 0
-nodeOf (Act.Request reqid) = 0
-nodeOf (Act.SendAsk node reqid) = node
-nodeOf Act.SleepAsk = 0
-nodeOf (Act.SendResult sent) = 0
-
-abbrev valueOf : Act → ℕ
-valueOf Act.Tick = 0
-valueOf (Act.NodeWakeAsk node) = 0
-valueOf Act.MasterWakeAsk = 0
-valueOf (Act.NodePermission node permitted) = bit permitted
-valueOf (Act.MasterPermission permitted) = bit permitted
-valueOf (Act.Request reqid) = reqid
-valueOf (Act.SendAsk node reqid) = reqid
-valueOf Act.SleepAsk = 0
-valueOf (Act.SendResult sent) = bit sent
-
-abbrev twoBytes : ℕ → List ℕ → List ℕ
-twoBytes x rest = highByte x ∷ lowByte x ∷ rest
-
-abbrev setBytes : Bus → List ℕ → List ℕ
-setBytes bus rest = twoBytes (maskOf (bus .reached)) (twoBytes (maskOf (bus .hearing)) (bit (bus .master) ∷ rest))
-
-abbrev busBytes : Bus → Fate → List ℕ
-busBytes bus Fate.Whole = 0 ∷ setBytes bus (0 ∷ 0 ∷ 0 ∷ 0 ∷ 0 ∷ 0 ∷ 0 ∷ [])
-busBytes bus (Fate.Damaged d) = 1 ∷ setBytes bus (twoBytes (d .result) (twoBytes (d .length) (d .count ∷ bit (d .permission) ∷ bit (d .wake) ∷ [])))
-busBytes bus Fate.Lost = 2 ∷ setBytes bus (0 ∷ 0 ∷ 0 ∷ 0 ∷ 0 ∷ 0 ∷ 0 ∷ [])
-
-abbrev pub encode : Move → List ℕ
-encode m = kindOf (m .act) ∷ nodeOf (m .act) ∷ valueOf (m .act) ∷ busBytes (m .bus) (m .bus .fate)
-
 two-bytes : (x : ℕ) → highByte x * 256 + lowByte x ≡ x
-two-bytes x = omega arith
+two-bytes x = from-halves x (highByte x) (lowByte x) refl refl
+
+set-back : (set : List Bool) → length set ≡ 16 → flags (highByte (maskOf set) * 256 + lowByte (maskOf set)) ≡ set
+unfolding flags
+set-back set e = ap flags (two-bytes (maskOf set)) ∙ sym (tab-of false 16 (flagAt (maskOf set)) set e (λ i l. sym (flag-of set i)))
+
+-- and the rest of a move from its bytes
 
 one-bit : (b : Bool) → eqb (bit b) 1 ≡ b
 one-bit true = refl
@@ -128,20 +75,23 @@ damage-back : (d : Damage) → _≡_ {A = Damage}
 damage-back d =
     λ i. record { result = two-bytes (d .result) i; length = two-bytes (d .length) i; count = d .count; permission = one-bit (d .permission) i; wake = one-bit (d .wake) i }
 
--- each move is read back from its record
-module _ (kind node value : ℕ) (bus : Bus) (reached : length (bus .reached) ≡ 16) (hearing : length (bus .hearing) ≡ 16) where
-  set-back : (set : List Bool) → length set ≡ 16 → flags (highByte (maskOf set) * 256 + lowByte (maskOf set)) ≡ set
-  set-back set e = ap flags (two-bytes (maskOf set)) ∙ flags-of set e
+-- a move whose answer ends otherwise
+abbrev withFate : Move → Fate → Move
+withFate m fate = record { act = m .act; bus = record { reached = m .bus .reached; hearing = m .bus .hearing; master = m .bus .master; fate = fate } }
 
-  bus-back : (fate : Fate) → busAt (kind ∷ node ∷ value ∷ busBytes bus fate) 0 ≡ (record { reached = bus .reached; hearing = bus .hearing; master = bus .master; fate = fate })
-  bus-back Fate.Whole = λ i. record { reached = set-back (bus .reached) reached i; hearing = set-back (bus .hearing) hearing i; master = one-bit (bus .master) i; fate = Fate.Whole }
-  bus-back (Fate.Damaged d) =
-      λ i. record { reached = set-back (bus .reached) reached i; hearing = set-back (bus .hearing) hearing i; master = one-bit (bus .master) i; fate = Fate.Damaged (damage-back d i) }
-  bus-back Fate.Lost = λ i. record { reached = set-back (bus .reached) reached i; hearing = set-back (bus .hearing) hearing i; master = one-bit (bus .master) i; fate = Fate.Lost }
+pub encoded : (m : Move) → Fits m → moveOf (encode m) ≡ m
+encoded m f =
+    λ i. record {
+      act = act-back (m .act) i;
+      bus = record { reached = set-back (m .bus .reached) (f .reached) i; hearing = set-back (m .bus .hearing) (f .hearing) i; master = one-bit (m .bus .master) i; fate = fate-back (m .bus .fate) i };
+    }
+  where
+    fate-back : (fate : Fate) → fateOf (fateByte fate) (damageOf (encode (withFate m fate))) ≡ fate
+    fate-back Fate.Whole = refl
+    fate-back (Fate.Damaged d) = ap Fate.Damaged (damage-back d)
+    fate-back Fate.Lost = refl
 
-pub encoded : (m : Move) → length (m .bus .reached) ≡ 16 → length (m .bus .hearing) ≡ 16 → moveAt (encode m) 0 ≡ m
-encoded m reached hearing =
-    λ i. record { act = act-back (m .act) i; bus = bus-back (kindOf (m .act)) (nodeOf (m .act)) (valueOf (m .act)) (m .bus) reached hearing (m .bus .fate) i }
+-- its bytes are taken for a move
 
 bit-flag : (b : Bool) → ltb 1 (bit b) ≡ false
 bit-flag true = refl
@@ -173,11 +123,110 @@ kind-right (Act.SendAsk node reqid) = refl
 kind-right Act.SleepAsk = refl
 kind-right (Act.SendResult sent) = refl
 
--- and is taken for a move
-pub encoded-right : (m : Move) → isMove (encode m) 0 ≡ true
+pub encoded-right : (m : Move) → isMove (encode m) ≡ true
 encoded-right m = go (m .bus .fate)
   where
-    go : (fate : Fate) → isMove (kindOf (m .act) ∷ nodeOf (m .act) ∷ valueOf (m .act) ∷ busBytes (m .bus) fate) 0 ≡ true
-    go Fate.Whole = rw (flag-right (m .act), kind-right (m .act), bit-right (m .bus .master))
-    go (Fate.Damaged d) = rw (flag-right (m .act), kind-right (m .act), bit-right (m .bus .master), bit-right (d .permission), bit-right (d .wake))
-    go Fate.Lost = rw (flag-right (m .act), kind-right (m .act), bit-right (m .bus .master))
+    go : (fate : Fate) → isMove (encode (withFate m fate)) ≡ true
+    go Fate.Whole = rw (kind-right (m .act), flag-right (m .act), bit-right (m .bus .master))
+    go (Fate.Damaged d) = rw (kind-right (m .act), flag-right (m .act), bit-right (m .bus .master), bit-right (d .permission), bit-right (d .wake))
+    go Fate.Lost = rw (kind-right (m .act), flag-right (m .act), bit-right (m .bus .master))
+
+encoded-size : (m : Move) → length (encode m) ≡ 16
+encoded-size m = omega (arith, size (m .bus .fate))
+  where
+    size : (fate : Fate) → length (damageBytes fate) ≡ 7
+    size Fate.Whole = refl
+    size (Fate.Damaged d) = refl
+    size Fate.Lost = refl
+
+-- and each is below 256
+
+data Bytes : List ℕ → Type 0 where
+  none : Bytes []
+  more : (b : ℕ) {s : List ℕ} → b < 256 → Bytes s → Bytes (b ∷ s)
+
+each-byte : {s : List ℕ} → Bytes s → (o : ℕ) → byte s o < 256
+each-byte none o = omega arith
+each-byte (more b l h) zero = l
+each-byte (more b l h) (suc o) = each-byte h o
+
+two-more : (x : ℕ) {s : List ℕ} → x < 65536 → Bytes s → Bytes (twoBytes x ++ s)
+two-more x l h = more (highByte x) (omega arith) (more (lowByte x) (omega arith) h)
+
+bit-small : (b : Bool) → bit b < 2
+bit-small true = omega arith
+bit-small false = omega arith
+
+bit-more : (b : Bool) {s : List ℕ} → Bytes s → Bytes (bit b ∷ s)
+bit-more b h = more (bit b) (omega (arith, bit-small b)) h
+
+both-bytes : {a b : List ℕ} → Bytes a → Bytes b → Bytes (a ++ b)
+both-bytes none g = g
+both-bytes (more b l h) g = more b l (both-bytes h g)
+
+mask-small : (set : List Bool) → maskOf set < 2 ^ length set
+unfolding maskOf
+mask-small [] = omega arith
+mask-small (b ∷ set) = omega (arith, pow-succ' 2 (length set), mask-small set, bit-small b)
+
+set-bytes : (set : List Bool) {s : List ℕ} → length set ≡ 16 → Bytes s → Bytes (twoBytes (maskOf set) ++ s)
+set-bytes set e h = two-more (maskOf set) (omega (arith, mask-small set, ap (λ n. 2 ^ n) e)) h
+
+zero-bytes : (n : ℕ) → Bytes (replicate n 0)
+zero-bytes zero = none
+zero-bytes (suc n) = more 0 (omega arith) (zero-bytes n)
+
+damage-bytes : (fate : Fate) → DamageFits fate → Bytes (damageBytes fate)
+damage-bytes Fate.Whole f = zero-bytes 7
+damage-bytes (Fate.Damaged d) f =
+    two-more (d .result) (f .0) (two-more (d .length) (f .1) (more (d .count) (f .2) (bit-more (d .permission) (bit-more (d .wake) none))))
+damage-bytes Fate.Lost f = zero-bytes 7
+
+encoded-bytes : (m : Move) → Fits m → Bytes (encode m)
+encoded-bytes m f =
+    more (kindOf (m .act)) (omega (arith, leb-true (kindOf (m .act)) 8 (kind-right (m .act)))) (more (nodeOf (m .act)) (f .node) (more (valueOf (m .act)) (f .value)
+    (more (fateByte (m .bus .fate)) (fate-small (m .bus .fate)) (set-bytes (m .bus .reached) (f .reached) (set-bytes (m .bus .hearing) (f .hearing)
+    (bit-more (m .bus .master) (damage-bytes (m .bus .fate) (f .damage))))))))
+  where
+    fate-small : (fate : Fate) → fateByte fate < 256
+    fate-small Fate.Whole = omega arith
+    fate-small (Fate.Damaged d) = omega arith
+    fate-small Fate.Lost = omega arith
+
+all-bytes : (moves : List Move) → AllFit moves → Bytes (encodeAll moves)
+all-bytes [] f = none
+all-bytes (m ∷ moves) f = both-bytes (encoded-bytes m (f .0)) (all-bytes moves (f .1))
+
+-- the list
+
+all-size : (moves : List Move) → length (encodeAll moves) ≡ 16 * length moves
+all-size [] = omega arith
+all-size (m ∷ moves) = omega (arith, length-append (encode m) (encodeAll moves), encoded-size m, all-size moves)
+
+all-records : (moves : List Move) → records (encodeAll moves) ≡ map encode moves
+all-records [] = records-none
+all-records (m ∷ moves) = records-first (encode m) (encodeAll moves) (encoded-size m) ∙ ap (λ l. encode m ∷ l) (all-records moves)
+
+all-right : (moves : List Move) → allMoves (map encode moves) ≡ true
+unfolding allMoves
+all-right [] = refl
+all-right (m ∷ moves) = rw (encoded-right m, all-right moves)
+
+all-back : (moves : List Move) → AllFit moves → map moveOf (map encode moves) ≡ moves
+all-back [] f = refl
+all-back (m ∷ moves) f = ap₂ _∷_ (encoded m (f .0)) (all-back moves (f .1))
+
+pub all-encoded : (moves : List Move) → AllFit moves → Says (encodeAll moves) moves
+all-encoded moves f =
+    record {
+      bytes = each-byte (all-bytes moves f);
+      size = all-size moves;
+      right = ap allMoves (all-records moves) ∙ all-right moves;
+      back = ap (map moveOf) (all-records moves) ∙ all-back moves f;
+    }
+
+-- so `run` runs every such list
+pub run-encoded : (p : Plan) (moves : List Move) → planRefusal p ≡ 0 → AllFit moves → runOf p (encodeAll moves) ≡ ranTo 0 (run p moves .world)
+run-encoded p moves ok f =
+    let s = all-encoded moves f in
+    rw (eq-eqb (planRefusal p) 0 ok, s .right, s .back)

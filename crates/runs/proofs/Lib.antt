@@ -1,2 +1,4 @@
+pub mod ByRecord
 pub mod Encoded
+pub mod Steps
 pub mod Turns

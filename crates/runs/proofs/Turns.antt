@@ -1,9 +1,11 @@
--- One turn more of the loops over a mask's bits and over a list of moves.
-use Prim.Native.Nat.{ℕ, zero, suc, _+_, _/_}
+-- The loop over a list of moves: one more, a record that is none, and the end.
+use Prim.Native.Nat.{ℕ, _+_, _<_}
 use mathlib.Core.Path.{_≡_, refl, sym, ap, _∙_}
+use mathlib.Core.Bool.{Bool, true, false}
 use mathlib.Core.List.{List, [], _∷_, _++_}
 use native.Mathlib.Numerals.{add-one}
-use Rattle.folds.specs.Fold.{tab}
+use Rattle.folds.specs.Fold.{pick, allTo, tab}
+use Rattle.folds.proofs.AllAny.{all-false}
 use Rattle.plan.specs.declared.Plan.{Plan}
 use Rattle.bus.specs.declared.Move.{Move}
 use Rattle.bus.specs.declared.Moved.{Moved}
@@ -11,17 +13,13 @@ use Rattle.bus.specs.declared.World.{World}
 use Rattle.bus.specs.Moves.{worldAct}
 use Rattle.bus.specs.World.{powerOn}
 use Rattle.history.specs.Run.{Run, then, runFrom, run, start}
-use Rattle.runs.specs.Encoding.{halved}
+use Rattle.runs.specs.declared.Ran.{Ran}
+use Rattle.runs.specs.Encoding.{moveOf, isMove}
+use Rattle.runs.specs.Records.{recordAt, recordCount, records, listRight, movesOf}
+use Rattle.runs.specs.Runs.{ranTo, ranOver}
+use Rattle.runs.proofs.ByRecord.{tab-last, map-tab, moves-tab}
 
-pub halved-more : (x i rest : ℕ) → rest ≡ halved x i → rest / 2 ≡ halved x (i + 1)
-halved-more x i rest e = rw (e, add-one)
-
-tab-last : {A : Type 0} (k : ℕ) (f : ℕ → A) → tab (suc k) f ≡ tab k f ++ (f k ∷ [])
-unfolding tab
-tab-last zero f = refl
-tab-last {A} (suc k) f = ap (λ (l : List A). f 0 ∷ l) (tab-last k (λ i. f (suc i)))
-
-run-last : (p : Plan) (r : Run) (moves : List Move) (m : Move) → runFrom p r (moves ++ (m ∷ [])) ≡ then (runFrom p r moves) (worldAct p (runFrom p r moves .world) m)
+pub run-last : (p : Plan) (r : Run) (moves : List Move) (m : Move) → runFrom p r (moves ++ (m ∷ [])) ≡ then (runFrom p r moves) (worldAct p (runFrom p r moves .world) m)
 run-last p r [] m = refl
 run-last p r (x ∷ moves) m = run-last p (then r (worldAct p (r .world) x)) moves m
 
@@ -36,3 +34,17 @@ run-more p f k world m r e q h =
     ap (λ (x : Moved). x .world) h ∙ ap (λ (x : World). worldAct p x m .world) e ∙ ap (λ (x : Move). worldAct p (run p (tab k f) .world) x .world) q
     ∙ sym (ap (λ (x : Run). x .world) (run-last p start (tab k f) (f k))) ∙ sym (ap (λ (l : List Move). run p l .world) (tab-last k f))
     ∙ ap (λ (j : ℕ). run p (tab j f) .world) (sym (add-one k))
+
+module _ (p : Plan) (s : List ℕ) (k : ℕ) where
+  pub ran-stopped : {r : Ran} → k < recordCount s → isMove (recordAt s k) ≡ false → r ≡ ranTo 15 powerOn → r ≡ ranOver p s
+  unfolding records
+  ran-stopped l e h =
+      let wrong : listRight s ≡ false = moves-tab (recordCount s) (recordAt s) ∙ all-false (λ i. isMove (recordAt s i)) (recordCount s) k l e in
+      h ∙ ap (λ (b : Bool). pick b (ranTo 0 (run p (movesOf s) .world)) (ranTo 15 powerOn)) (sym wrong)
+
+  pub ran-all : {w : World} → k ≡ recordCount s → allTo (λ i. isMove (recordAt s i)) k ≡ true → w ≡ run p (tab k (λ i. moveOf (recordAt s i))) .world → ranTo 0 w ≡ ranOver p s
+  unfolding records
+  ran-all n e h =
+      let right : listRight s ≡ true = moves-tab (recordCount s) (recordAt s) ∙ ap (allTo (λ i. isMove (recordAt s i))) (sym n) ∙ e in
+      let moves : tab k (λ i. moveOf (recordAt s i)) ≡ movesOf s = ap (λ (j : ℕ). tab j (λ i. moveOf (recordAt s i))) n ∙ sym (map-tab moveOf (recordCount s) (recordAt s)) in
+      ap (ranTo 0) (h ∙ ap (λ (l : List Move). run p l .world) moves) ∙ ap (λ (b : Bool). pick b (ranTo 0 (run p (movesOf s) .world)) (ranTo 15 powerOn)) (sym right)

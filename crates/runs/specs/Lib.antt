@@ -1,2 +1,4 @@
+pub mod Encode
 pub mod Encoding
+pub mod Records
 pub mod Runs

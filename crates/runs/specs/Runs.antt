@@ -1,20 +1,47 @@
--- A run over moves as bytes.
+-- A move as bytes, and a list of them from power-on.
 use Prim.Native.Nat.{ℕ}
-use mathlib.Core.List.{List}
+use mathlib.Core.List.{List, [], _∷_}
 use lib.Dec.{eqb}
 use Rattle.folds.specs.Fold.{pick}
 use Rattle.plan.specs.declared.Plan.{Plan}
 use Rattle.plan.specs.Rules.{planRefusal}
+use Rattle.bus.specs.declared.Moved.{Moved}
 use Rattle.bus.specs.declared.World.{World}
-use Rattle.bus.specs.World.{powerOn}
-use Rattle.history.specs.Run.{run}
+use Rattle.bus.specs.Moves.{worldAct}
+use Rattle.bus.specs.Range.{worldInRange}
+use Rattle.bus.specs.World.{powerOn, stays}
+use Rattle.history.specs.Run.{Run, then, start, run}
 use Rattle.runs.specs.declared.Ran.{Ran}
-use Rattle.runs.specs.Encoding.{listRight, movesOf}
+use Rattle.runs.specs.Encoding.{moveOf, isMove}
+use Rattle.runs.specs.Records.{listRight, movesOf}
 
+-- "plan 4 to 8 first, then 11, 15"
+abbrev pub stepOf : Plan → World → List ℕ → Moved
+stepOf p w s =
+    pick (eqb (planRefusal p) 0)
+    (pick (worldInRange (p .nodecount) (p .times) w)
+    (pick (isMove s) (worldAct p w (moveOf s))
+    (stays w 15))
+    (stays w 11))
+    (stays w (planRefusal p))
+
+-- a step for each record, from the world that the one before left
+abbrev pub stepsFrom : Plan → Run → List (List ℕ) → Run
+stepsFrom p r [] = r
+stepsFrom p r (s ∷ more) = stepsFrom p (then r (stepOf p (r .world) s)) more
+
+-- from power-on
+abbrev pub steps : Plan → List (List ℕ) → Run
+steps p l = stepsFrom p start l
+
+-- what a run answers
 abbrev pub ranTo : ℕ → World → Ran
 ranTo refusal world = record { refusal = refusal; world = world }
 
--- 4 to 8, then 15 for bytes that are no list of moves, both with the machines at power-on
+-- under an accepted plan: 15 for bytes that are no list of moves, with the machines at power-on
+abbrev pub ranOver : Plan → List ℕ → Ran
+ranOver p s = pick (listRight s) (ranTo 0 (run p (movesOf s) .world)) (ranTo 15 powerOn)
+
+-- "plan 4 to 8 first"
 abbrev pub runOf : Plan → List ℕ → Ran
-runOf p s =
-    pick (eqb (planRefusal p) 0) (pick (listRight s) (ranTo 0 (run p (movesOf s) .world)) (ranTo 15 powerOn)) (ranTo (planRefusal p) powerOn)
+runOf p s = pick (eqb (planRefusal p) 0) (ranOver p s) (ranTo (planRefusal p) powerOn)

@@ -1,8 +1,8 @@
-// A move of a list of moves as bytes.
+// A move of a record of 16 bytes.
 ghost use mathlib.Core.Path.{_≡_};
-ghost use Prim.Native.Nat.{_≤_, _+_};
-ghost use lib.ListN.{length};
-ghost use Rattle.runs.specs.Encoding.{flags, actOf, damageAt, fateOf, busAt, moveAt, hasFlag, isMove, listRight};
+ghost use Prim.Native.Nat.{_<_};
+ghost use Rattle.runs.specs.Encoding.{flagAt, flags, actOf, damageOf, fateOf, busOf, moveOf, hasFlag, isMove};
+use blocks::byte_at;
 use blocks::number_at;
 use bus::Act;
 use bus::Bus;
@@ -10,16 +10,22 @@ use bus::Damage;
 use bus::Fate;
 use bus::Move;
 
-// The bits of a number, the lowest first.
+// Whether node i is in a set of nodes, bit 0 the lowest.
+fn flag_at(mask: u16, i: usize) -> bool
+    requires { ⌜ i < 16 ⌝ }
+    ensures { λ r. ⌜ r ≡ flagAt mask i ⌝ }
+{
+    (mask >> i) % 2 == 1
+}
+
+// A set of nodes, node 0 first.
 fn flags(mask: u16) -> [bool; 16]
     ensures { λ r. ⌜ r ≡ flags mask ⌝ }
 {
     let mut set = [false; 16];
-    let mut rest = mask;
     let mut i: usize = 0;
     while i < 16 {
-        set[i] = rest % 2 == 1;
-        rest = rest / 2;
+        set[i] = flag_at(mask, i);
         i += 1;
     }
     set
@@ -58,16 +64,15 @@ fn act_of(kind: u8, node: u8, value: u8) -> Act
     Act::SendResult(value == 1)
 }
 
-fn damage_at(moves: &[u8], at: usize) -> Damage
-    requires { ⌜ at + 16 ≤ length (now moves) ⌝ }
-    ensures { λ r. ⌜ r ≡ damageAt (now (moves .entry)) at ⌝ }
+fn damage_of(bytes: &[u8]) -> Damage
+    ensures { λ r. ⌜ r ≡ damageOf (now (bytes .entry)) ⌝ }
 {
     Damage {
-        result: number_at(moves, at + 9),
-        length: number_at(moves, at + 11),
-        count: moves[at + 13],
-        permission: moves[at + 14] == 1,
-        wake: moves[at + 15] == 1,
+        result: number_at(bytes, 9),
+        length: number_at(bytes, 11),
+        count: byte_at(bytes, 13),
+        permission: byte_at(bytes, 14) == 1,
+        wake: byte_at(bytes, 15) == 1,
     }
 }
 
@@ -83,29 +88,27 @@ fn fate_of(fate: u8, damage: Damage) -> Fate
     Fate::Lost
 }
 
-fn bus_at(moves: &[u8], at: usize) -> Bus
-    requires { ⌜ at + 16 ≤ length (now moves) ⌝ }
-    ensures { λ r. ⌜ r ≡ busAt (now (moves .entry)) at ⌝ }
+fn bus_of(bytes: &[u8]) -> Bus
+    ensures { λ r. ⌜ r ≡ busOf (now (bytes .entry)) ⌝ }
 {
-    let reached = flags(number_at(moves, at + 4));
-    let hearing = flags(number_at(moves, at + 6));
-    let damage = damage_at(moves, at);
-    let fate = fate_of(moves[at + 3], damage);
+    let reached = flags(number_at(bytes, 4));
+    let hearing = flags(number_at(bytes, 6));
+    let damage = damage_of(bytes);
+    let fate = fate_of(byte_at(bytes, 3), damage);
     Bus {
         reached,
         hearing,
-        master: moves[at + 8] == 1,
+        master: byte_at(bytes, 8) == 1,
         fate,
     }
 }
 
-// The move of the record that starts at an offset.
-pub(crate) fn move_at(moves: &[u8], at: usize) -> Move
-    requires { ⌜ at + 16 ≤ length (now moves) ⌝ }
-    ensures { λ r. ⌜ r ≡ moveAt (now (moves .entry)) at ⌝ }
+// The move of a record; of bytes that are none, what stands at its places.
+pub fn move_of(bytes: &[u8]) -> Move
+    ensures { λ r. ⌜ r ≡ moveOf (now (bytes .entry)) ⌝ }
 {
-    let act = act_of(moves[at], moves[at + 1], moves[at + 2]);
-    let bus = bus_at(moves, at);
+    let act = act_of(byte_at(bytes, 0), byte_at(bytes, 1), byte_at(bytes, 2));
+    let bus = bus_of(bytes);
     Move { act, bus }
 }
 
@@ -115,33 +118,16 @@ fn has_flag(kind: u8) -> bool
     (kind == 3) | (kind == 4) | (kind == 8)
 }
 
-fn is_move(moves: &[u8], at: usize) -> bool
-    requires { ⌜ at + 16 ≤ length (now moves) ⌝ }
-    ensures { λ r. ⌜ r ≡ isMove (now (moves .entry)) at ⌝ }
+// Whether bytes are the record of a move.
+pub fn is_move(bytes: &[u8]) -> bool
+    ensures { λ r. ⌜ r ≡ isMove (now (bytes .entry)) ⌝ }
 {
-    let kind = moves[at];
-    !(has_flag(kind) & (1 < moves[at + 2]))
+    let kind = byte_at(bytes, 0);
+    (bytes.len() == 16)
         & (kind <= 8)
-        & (moves[at + 3] <= 2)
-        & (moves[at + 8] <= 1)
-        & (moves[at + 14] <= 1)
-        & (moves[at + 15] <= 1)
-}
-
-// Whether bytes are whole records, each a move.
-pub(crate) fn is_list(moves: &[u8]) -> bool
-    ensures { λ r. ⌜ r ≡ listRight (now (moves .entry)) ⌝ }
-{
-    if !(moves.len() % 16 == 0) {
-        return false;
-    }
-    let count = moves.len() / 16;
-    let mut k: usize = 0;
-    while k < count {
-        if !is_move(moves, 16 * k) {
-            return false;
-        }
-        k += 1;
-    }
-    true
+        & !(has_flag(kind) & (1 < byte_at(bytes, 2)))
+        & (byte_at(bytes, 3) <= 2)
+        & (byte_at(bytes, 8) <= 1)
+        & (byte_at(bytes, 14) <= 1)
+        & (byte_at(bytes, 15) <= 1)
 }

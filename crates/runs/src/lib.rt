@@ -1,4 +1,4 @@
-// A run over a lent list of moves as bytes, from power-on. Each move is a record of 16 bytes, numbers big-endian:
+// Moves as bytes: a lent list of them run from power-on, and one by itself. Each is a record of 16 bytes, numbers big-endian:
 //
 //  0     act: 0 tick, 1 ask to wake of a node, 2 of the master, 3 permission of a node, 4 of the master, 5 request,
 //        6 a node's ask to send, 7 sleep ask, 8 send result
@@ -9,21 +9,53 @@
 //  6-7   nodes that hear a wake-up pulse of another
 //  8     1 if the master hears a wake-up pulse, else 0
 //  9-10  result of a damaged answer; 11-12 its length; 13 its count; 14 its permission bit; 15 its wake bit
+//
+// Bytes 0, 3, 8, 14 and 15 are judged in every record, byte 2 in acts 3, 4 and 8; the others may be anything, also where the act does
+// not read them.
 ghost use mathlib.Core.Path.{_≡_};
 ghost use Rattle.bus.specs.World.{powerOn};
 ghost use Rattle.demand.specs.Demand3.{Demand3};
-ghost use Rattle.history.specs.Run.{run};
-ghost use Rattle.runs.specs.Encoding.{movesOf};
-ghost use Rattle.runs.specs.Runs.{ranTo, runOf};
+ghost use Rattle.runs.specs.Records.{movesOf};
+ghost use Rattle.runs.specs.Runs.{stepOf, ranTo, ranOver, runOf};
+use bus::Moved;
 use bus::World;
+use bus::stays;
 use plan::Plan;
 use plan::plan_refusal;
 
 mod encoding;
+mod records;
 
+pub use encoding::is_move;
+pub use encoding::move_of;
+pub use records::record_at;
+pub use records::record_count;
+
+// The machines after a list of moves, or why it did not run.
 pub struct Ran {
     pub refusal: u8,
     pub world: World,
+}
+
+// One move of a run. 4 to 8 for a refused plan, 11 for machines out of range, 15 for bytes that are no move.
+pub fn step(plan: Plan, world: World, bytes: &[u8]) -> Moved
+    ensures { λ r. ⌜ r ≡ stepOf plan world (now (bytes .entry)) ⌝ }
+{
+    let refusal = plan_refusal(plan);
+    if refusal == 0 {
+        let times = plan.times;
+        if world.in_range(plan.nodecount, times) {
+            if is_move(bytes) {
+                world.act(plan, move_of(bytes))
+            } else {
+                stays(world, 15)
+            }
+        } else {
+            stays(world, 11)
+        }
+    } else {
+        stays(world, refusal)
+    }
 }
 
 fn refused(refusal: u8) -> Ran
@@ -35,37 +67,33 @@ fn refused(refusal: u8) -> Ran
     }
 }
 
+// Each record in turn. The plan is judged, and no world of a run is out of range, so each move is made at once.
+fn run_all(plan: Plan, moves: &[u8]) -> Ran
+    ensures { λ r. ⌜ r ≡ ranOver plan (now (moves .entry)) ⌝ }
+{
+    let count = record_count(moves);
+    let mut world = World::power_on();
+    let mut k: usize = 0;
+    while k < count {
+        let bytes = record_at(moves, k);
+        if !is_move(bytes) {
+            return refused(15);
+        }
+        let moved = world.act(plan, move_of(bytes));
+        world = moved.world;
+        k += 1;
+    }
+    Ran { refusal: 0, world }
+}
+
 // The world after a list of moves; demand 3 holds of it. 4 to 8 for a refused plan, 15 for bytes that are no list of moves.
 pub fn run(plan: Plan, moves: &[u8]) -> Ran
     ensures { λ r. ⌜ (r ≡ runOf plan (now (moves .entry))) × (r .refusal ≡ 0 → Demand3 plan (movesOf (now (moves .entry)))) ⌝ }
 {
     let refusal = plan_refusal(plan);
     if refusal == 0 {
-        if encoding::is_list(moves) {
-            Ran {
-                refusal: 0,
-                world: run_all(plan, moves),
-            }
-        } else {
-            refused(15)
-        }
+        run_all(plan, moves)
     } else {
         refused(refusal)
     }
-}
-
-// Each record in turn.
-fn run_all(plan: Plan, moves: &[u8]) -> World
-    ensures { λ r. ⌜ r ≡ run plan (movesOf (now (moves .entry))) .world ⌝ }
-{
-    let count = moves.len() / 16;
-    let mut world = World::power_on();
-    let mut k: usize = 0;
-    while k < count {
-        let next = encoding::move_at(moves, 16 * k);
-        let moved = world.act(plan, next);
-        world = moved.world;
-        k += 1;
-    }
-    world
 }

@@ -1,7 +1,10 @@
-// The bytes of a set's file, for programs: what a file holds is outside any promise, so only the count is promised.
+// A set's file, for programs: what a file holds is outside any promise, so of reading it only the count is promised.
 ghost use mathlib.Core.Path.{_≡_};
 ghost use lib.ListN.{replicate};
 ghost use Rattle.io.specs.Counts.{Counts};
+ghost use Rattle.reader.specs.Read.{readSet};
+use libc::STDOUT_FILENO;
+use reader::ReadAnswer;
 
 // Room for the longest set, and a byte more that tells a longer file.
 pub fn set_room() -> [u8; 1537]
@@ -21,4 +24,17 @@ pub fn read_set(name: &[u8], set: &mut [u8]) -> usize
     let count = io::read_full(file, set);
     libc::close(file);
     count
+}
+
+// The plan of a set's bytes. A refused set is named on standard output.
+pub fn read_plan(set: &[u8]) -> ReadAnswer
+    ensures { λ r. ⌜ r ≡ readSet (now (set .entry)) ⌝ }
+{
+    let answer = reader::read(set);
+    if !(answer.refusal == 0) {
+        io::write_all(STDOUT_FILENO, b"set ");
+        io::print_decimal(STDOUT_FILENO, answer.refusal as u64);
+        io::write_all(STDOUT_FILENO, b"\n");
+    }
+    answer
 }

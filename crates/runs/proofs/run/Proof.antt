@@ -1,8 +1,5 @@
 -- A list that ran is one of moves under an accepted plan, of which demand 3 holds. Assumes nothing.
-use Prim.Native.Nat.{ℕ}
-use mathlib.Core.Path.{_≡_, sym, ap, _∙_}
-use native.Mathlib.Omega.{arith}
-use borrow.Author.Needs.{needs}
+use mathlib.Core.Path.{sym, ap, _∙_}
 use borrow.Author.Tests.{eq-eqb, ne-eqb}
 use Rattle.demand.proofs.Holds.{demand3}
 use Rattle.runs.specs.declared.Ran.{Ran}
@@ -13,45 +10,24 @@ use Rattle.runs.proofs.run.Tie as tie
 plan-refusal-requires : tie.Need-plan-refusal-requires
 plan-refusal-requires c κs = search needs
 
-is-list-requires : tie.Need-is-list-requires
-is-list-requires c κs = search needs
-
 run-all-requires : tie.Need-run-all-requires
 run-all-requires c κs = search needs
 
 refused-requires : tie.Need-refused-requires
 refused-requires c κs = search needs
 
-refused-requires-2 : tie.Need-refused-requires-2
-refused-requires-2 c κs = search needs
-
 returns : tie.Need-returns
 returns c = (
-  rw (c .run-all .ensures, ← c .before .before .before .before .plan-refusal .ensures, eq-eqb _ _ (c .before .before .before .if1 .taken), ← c .before .before .is-list .ensures, c .before .if2 .taken),
-  λ e. demand3 _ (sym (c .before .before .before .before .plan-refusal .ensures) ∙ c .before .before .before .if1 .taken) _,
+  rw (c .run-all .ensures, ← c .before .before .plan-refusal .ensures, eq-eqb _ _ (c .before .if1 .taken)),
+  λ e. demand3 _ (sym (c .before .before .plan-refusal .ensures) ∙ c .before .if1 .taken) _,
 )
 
 returns-2 : tie.Need-returns-2
 returns-2 c = (
-  rw (c .refused .ensures, ← c .before .before .before .before .plan-refusal .ensures, eq-eqb _ _ (c .before .before .before .if1 .taken), ← c .before .before .is-list .ensures, c .before .if2 .left),
-  λ e. let z : _≡_ {A = ℕ} 15 0 = sym (ap (λ (r : Ran). r .refusal) (c .refused .ensures)) ∙ e in absurd (omega arith),
-)
-
-returns-3 : tie.Need-returns-3
-returns-3 c = (
-  rw (c .refused2 .ensures, ← c .before .before .plan-refusal .ensures, ne-eqb _ _ (c .before .if1 .left)),
-  λ e. absurd (c .before .if1 .left (sym (ap (λ (r : Ran). r .refusal) (c .refused2 .ensures)) ∙ e)),
+  rw (c .refused .ensures, ← c .before .before .plan-refusal .ensures, ne-eqb _ _ (c .before .if1 .left)),
+  λ e. absurd (c .before .if1 .left (sym (ap (λ (r : Ran). r .refusal) (c .refused .ensures)) ∙ e)),
 )
 
 pub run-spec : {M : Type 1} → statement M
 run-spec =
-    tie.close
-    (tie.spec
-    plan-refusal-requires
-    is-list-requires
-    run-all-requires
-    refused-requires
-    refused-requires-2
-    returns
-    returns-2
-    returns-3)
+    tie.close (tie.spec plan-refusal-requires run-all-requires refused-requires returns returns-2)

@@ -1,33 +1,49 @@
--- The world is that of the moves so far. Assumes nothing.
-use Prim.Native.Nat.{ℕ, _-_, _/_, _≤_}
-use mathlib.Core.Path.{_≡_, refl, ap, _∙_}
-use lib.ListN.{length}
+-- The records so far are moves, and the world is that of these moves. Assumes nothing.
+use Prim.Native.Nat.{ℕ, _-_, _≤_}
+use mathlib.Core.Path.{_≡_, ap, sym, _∙_}
+use mathlib.Core.Bool.{true}
 use native.Mathlib.Omega.{arith}
-use Rattle.folds.specs.Fold.{tab}
+use borrow.Author.Tests.{not-true, not-false}
+use Rattle.folds.specs.Fold.{allTo, tab}
+use Rattle.folds.proofs.AllAny.{all-none, all-more}
 use Rattle.history.specs.Run.{run}
-use Rattle.runs.specs.Encoding.{recordMove, movesOf}
-use Rattle.runs.proofs.Turns.{run-none, run-more}
+use Rattle.runs.specs.Encoding.{moveOf, isMove}
+use Rattle.runs.specs.Records.{recordAt, recordCount}
+use Rattle.runs.proofs.Turns.{run-none, run-more, ran-stopped, ran-all}
 use borrow.Author.Needs.{needs}
 use Rattle.runs.proofs.run_all.Statement.{statement}
 use Rattle.runs.proofs.run_all.Tie as tie
 
 abbrev Inv-loop : tie.InvT-loop
-Inv-loop plan moves count world₀ k₀ world k = (k ≤ count) × (count ≡ length moves / 16) × (world ≡ run plan (tab k (recordMove moves)) .world)
+Inv-loop plan moves count world₀ k₀ world k = (k ≤ count) × (count ≡ recordCount moves) × (allTo (λ (i : ℕ). isMove (recordAt moves i)) k ≡ true)
+    × (world ≡ run plan (tab k (λ (i : ℕ). moveOf (recordAt moves i))) .world)
 
 abbrev μ-loop : tie.MeasureT-loop
 μ-loop plan moves count world₀ k₀ world k = count - k
+
+record-count-requires : tie.Need-record-count-requires Inv-loop μ-loop
+record-count-requires c κs = search needs
 
 power-on-requires : tie.Need-power-on-requires Inv-loop μ-loop
 power-on-requires c κs = search needs
 
 loop-holds : tie.Need-loop-holds Inv-loop μ-loop
-loop-holds c = (search needs, refl, run-none _ _ _ (c .power-on .ensures))
+loop-holds c = (search needs, c .before .record-count .ensures, all-none _, run-none _ _ _ (c .power-on .ensures))
 
-mul-move-at : tie.Need-mul-move-at Inv-loop μ-loop
-mul-move-at c = search needs
+record-at-requires : tie.Need-record-at-requires Inv-loop μ-loop
+record-at-requires c κs = search needs
 
-move-at-requires : tie.Need-move-at-requires Inv-loop μ-loop
-move-at-requires c κs = search needs
+is-move-requires : tie.Need-is-move-requires Inv-loop μ-loop
+is-move-requires c κs = search needs
+
+refused-requires : tie.Need-refused-requires Inv-loop μ-loop
+refused-requires c κs = search needs
+
+returns : tie.Need-returns Inv-loop μ-loop
+returns c = ran-stopped _ _ (c .before .before .before .before .before .loop .k) (omega (arith, c .before .before .before .before .loop-test .taken, c .before .before .before .before .before .loop .inv .1)) (ap isMove (sym (c .before .before .before .record-at .ensures)) ∙ sym (c .before .before .is-move .ensures) ∙ not-true _ (c .before .if1 .taken)) (c .refused .ensures)
+
+move-of-requires : tie.Need-move-of-requires Inv-loop μ-loop
+move-of-requires c κs = search needs
 
 act-requires : tie.Need-act-requires Inv-loop μ-loop
 act-requires c κs = search needs
@@ -40,16 +56,17 @@ loop-less c = search needs
 
 loop-again : tie.Need-loop-again Inv-loop μ-loop
 loop-again c =
-    let at = c .before .before .before .before .loop in
-    (omega arith, refl, run-more _ _ (at .k) _ _ _ (at .inv .2) (c .before .before .move-at .ensures) (c .before .act .ensures))
+    let at = c .before .before .before .before .before .before .before .loop in (
+      search needs,
+      at .inv .1,
+      all-more _ _ (at .inv .2) (ap isMove (sym (c .before .before .before .before .before .record-at .ensures)) ∙ sym (c .before .before .before .before .is-move .ensures) ∙ not-false _ (c .before .before .before .if1 .left)),
+      run-more _ _ (at .k) _ _ _ (at .inv .3) (c .before .before .move-of .ensures ∙ ap moveOf (c .before .before .before .before .before .record-at .ensures)) (c .before .act .ensures),
+    )
 
-returns : tie.Need-returns Inv-loop μ-loop
-unfolding movesOf
-returns c =
+returns-2 : tie.Need-returns-2 Inv-loop μ-loop
+returns-2 c =
     let at = c .before .loop in
-    let a = c .before .before .before .before .args in
-    let e : at .k ≡ length (a .moves .now) / 16 = omega (arith, c .loop-test .left) in
-    at .inv .2 ∙ ap (λ (j : ℕ). run (a .plan) (tab j (recordMove (a .moves .now))) .world) e
+    ran-all _ _ (at .k) (omega (arith, c .loop-test .left, at .inv .1)) (at .inv .2) (at .inv .3)
 
 pub run-all-spec : {M : Type 1} → statement M
 run-all-spec =
@@ -57,12 +74,16 @@ run-all-spec =
     (tie.spec
     Inv-loop
     μ-loop
+    record-count-requires
     power-on-requires
     loop-holds
-    mul-move-at
-    move-at-requires
+    record-at-requires
+    is-move-requires
+    refused-requires
+    returns
+    move-of-requires
     act-requires
     add-k
     loop-less
     loop-again
-    returns)
+    returns-2)

@@ -1,25 +1,26 @@
--- The bits passed are those of the mask. Assumes nothing.
-use Prim.Native.Nat.{ℕ, _-_, _%_, _≤_, _<_}
-use mathlib.Core.Path.{_≡_, refl, ap}
+-- The flags passed are those of the mask. Assumes nothing.
+use Prim.Native.Nat.{ℕ, _-_, _≤_, _<_}
+use mathlib.Core.Path.{_≡_, refl}
 use mathlib.Core.Bool.{false}
-use lib.Dec.{eqb}
 use lib.ListN.{length, getD, length-set}
 use native.Mathlib.Omega.{arith}
 use Rattle.folds.proofs.Tables.{filled-more, tab-of}
-use Rattle.runs.specs.Encoding.{halved, flagAt, flags}
-use Rattle.runs.proofs.Turns.{halved-more}
+use Rattle.runs.specs.Encoding.{flagAt, flags}
 use borrow.Author.Needs.{needs}
 use Rattle.runs.proofs.encoding.flags.Statement.{statement}
 use Rattle.runs.proofs.encoding.flags.Tie as tie
 
 abbrev Inv-loop : tie.InvT-loop
-Inv-loop mask set₀ rest₀ i₀ set rest i = (i ≤ 16) × (length set ≡ 16) × (rest ≡ halved mask i) × ((k : ℕ) → k < i → getD set k false ≡ flagAt mask k)
+Inv-loop mask set₀ i₀ set i = (i ≤ 16) × (length set ≡ 16) × ((k : ℕ) → k < i → getD set k false ≡ flagAt mask k)
 
 abbrev μ-loop : tie.MeasureT-loop
-μ-loop mask set₀ rest₀ i₀ set rest i = 16 - i
+μ-loop mask set₀ i₀ set i = 16 - i
 
 loop-holds : tie.Need-loop-holds Inv-loop μ-loop
-loop-holds c = (search needs, refl, refl, λ k p. absurd (omega arith))
+loop-holds c = (search needs, refl, λ k p. absurd (omega arith))
+
+flag-at-requires : tie.Need-flag-at-requires Inv-loop μ-loop
+flag-at-requires c κs = search needs
 
 array-write-set : tie.Need-array-write-set Inv-loop μ-loop
 array-write-set c = search needs
@@ -32,19 +33,26 @@ loop-less c = search needs
 
 loop-again : tie.Need-loop-again Inv-loop μ-loop
 loop-again c =
-    let at = c .before .loop in
-    let a = c .before .before .args in (
+    let at = c .before .before .loop in (
       search needs,
       simp length-set (search needs),
-      halved-more (a .mask) (at .i) (at .rest) (at .inv .2),
-      filled-more false (flagAt (a .mask)) (at .set) (at .i) (eqb (at .rest % 2) 1) (search needs) (ap (λ (x : ℕ). eqb (x % 2) 1) (at .inv .2)) (at .inv .3),
+      filled-more false (flagAt (c .before .before .before .args .mask)) (at .set) (at .i) (c .flag-at .result) (search needs) (c .flag-at .ensures) (at .inv .2),
     )
 
 returns : tie.Need-returns Inv-loop μ-loop
 unfolding flags
-returns c = tab-of false 16 _ _ (c .before .loop .inv .1) (λ k p. c .before .loop .inv .3 k (omega arith))
+returns c = tab-of false 16 _ _ (c .before .loop .inv .1) (λ k p. c .before .loop .inv .2 k (omega arith))
 
 pub flags-spec : {M : Type 1} → statement M
 flags-spec =
     tie.close
-    (tie.spec Inv-loop μ-loop loop-holds array-write-set add-i loop-less loop-again returns)
+    (tie.spec
+    Inv-loop
+    μ-loop
+    loop-holds
+    flag-at-requires
+    array-write-set
+    add-i
+    loop-less
+    loop-again
+    returns)

@@ -1,9 +1,6 @@
 use borrow.Author.Needs.{needs}
-use Rattle.runs.proofs.encoding.bus_at.Statement.{statement}
-use Rattle.runs.proofs.encoding.bus_at.Tie as tie
-
-add-number-at : tie.Need-add-number-at
-add-number-at c = search needs
+use Rattle.runs.proofs.encoding.bus_of.Statement.{statement}
+use Rattle.runs.proofs.encoding.bus_of.Tie as tie
 
 number-at-requires : tie.Need-number-at-requires
 number-at-requires c κs = search needs
@@ -11,58 +8,47 @@ number-at-requires c κs = search needs
 flags-requires : tie.Need-flags-requires
 flags-requires c κs = search needs
 
-add-number-at-2 : tie.Need-add-number-at-2
-add-number-at-2 c = search needs
-
 number-at-requires-2 : tie.Need-number-at-requires-2
 number-at-requires-2 c κs = search needs
 
 flags-requires-2 : tie.Need-flags-requires-2
 flags-requires-2 c κs = search needs
 
-damage-at-requires : tie.Need-damage-at-requires
-damage-at-requires c κs = search needs
+damage-of-requires : tie.Need-damage-of-requires
+damage-of-requires c κs = search needs
 
-add-fate-of : tie.Need-add-fate-of
-add-fate-of c = search needs
-
-shared-slice-read-fate-of : tie.Need-shared-slice-read-fate-of
-shared-slice-read-fate-of c = search needs
+byte-at-requires : tie.Need-byte-at-requires
+byte-at-requires c κs = search needs
 
 fate-of-requires : tie.Need-fate-of-requires
 fate-of-requires c κs = search needs
 
-add-t8 : tie.Need-add-t8
-add-t8 c = search needs
-
-shared-slice-read-t10 : tie.Need-shared-slice-read-t10
-shared-slice-read-t10 c = search needs
+byte-at-requires-2 : tie.Need-byte-at-requires-2
+byte-at-requires-2 c κs = search needs
 
 returns : tie.Need-returns
 returns c =
     rw (
+      c .byte-at2 .ensures,
       c .before .fate-of .ensures,
-      c .before .before .before .damage-at .ensures,
+      c .before .before .byte-at .ensures,
+      c .before .before .before .damage-of .ensures,
       c .before .before .before .before .flags2 .ensures,
       c .before .before .before .before .before .number-at2 .ensures,
       c .before .before .before .before .before .before .flags .ensures,
       c .before .before .before .before .before .before .before .number-at .ensures,
     )
 
-pub bus-at-spec : {M : Type 1} → statement M
-bus-at-spec =
+pub bus-of-spec : {M : Type 1} → statement M
+bus-of-spec =
     tie.close
     (tie.spec
-    add-number-at
     number-at-requires
     flags-requires
-    add-number-at-2
     number-at-requires-2
     flags-requires-2
-    damage-at-requires
-    add-fate-of
-    shared-slice-read-fate-of
+    damage-of-requires
+    byte-at-requires
     fate-of-requires
-    add-t8
-    shared-slice-read-t10
+    byte-at-requires-2
     returns)
