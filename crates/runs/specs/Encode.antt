@@ -5,6 +5,7 @@ use mathlib.Core.Bool.{Bool, true, false}
 use mathlib.Core.List.{List, [], _∷_, _++_}
 use lib.ListN.{length, replicate}
 use Rattle.blocks.specs.Bytes.{byte, twoBytes}
+use Rattle.plan.specs.Limits.{maxNodes}
 use Rattle.bus.specs.declared.Act.{Act}
 use Rattle.bus.specs.declared.Fate.{Fate}
 use Rattle.bus.specs.declared.Move.{Move}
@@ -89,8 +90,8 @@ DamageFits Fate.Lost = Unit {0}
 pub record Fits (m : Move) : Type 0 where
   pub node : nodeOf (m .act) < 256
   pub value : valueOf (m .act) < 256
-  pub reached : length (m .bus .reached) ≡ 16
-  pub hearing : length (m .bus .hearing) ≡ 16
+  pub reached : length (m .bus .reached) ≡ maxNodes
+  pub hearing : length (m .bus .hearing) ≡ maxNodes
   pub damage : DamageFits (m .bus .fate)
 
 -- each of some moves fits

@@ -6,6 +6,7 @@ use lib.Dec.{leb, ltb, eqb}
 use lib.ListN.{length}
 use Rattle.folds.specs.Fold.{pick, tab}
 use Rattle.blocks.specs.Bytes.{byte, number}
+use Rattle.plan.specs.Limits.{maxNodes}
 use Rattle.bus.specs.declared.Act.{Act}
 use Rattle.bus.specs.declared.Bus.{Bus}
 use Rattle.bus.specs.declared.Damage.{Damage}
@@ -18,7 +19,7 @@ flagAt mask i = eqb (mask / 2 ^ i % 2) 1
 
 -- a set of nodes, node 0 first
 unfoldable pub flags : ℕ → List Bool
-flags mask = tab 16 (flagAt mask)
+flags mask = tab maxNodes (flagAt mask)
 
 -- byte 0 names the act; byte 1 is its node, byte 2 its ReqId or its yes or no
 abbrev pub actOf : ℕ → ℕ → ℕ → Act

@@ -9,6 +9,7 @@ use bus::Bus;
 use bus::Damage;
 use bus::Fate;
 use bus::Move;
+use plan::Plan;
 
 // Whether node i is in a set of nodes, bit 0 the lowest.
 fn flag_at(mask: u16, i: usize) -> bool
@@ -19,12 +20,12 @@ fn flag_at(mask: u16, i: usize) -> bool
 }
 
 // A set of nodes, node 0 first.
-fn flags(mask: u16) -> [bool; 16]
+fn flags(mask: u16) -> [bool; Plan::NODES]
     ensures { λ r. ⌜ r ≡ flags mask ⌝ }
 {
-    let mut set = [false; 16];
+    let mut set = [false; Plan::NODES];
     let mut i: usize = 0;
-    while i < 16 {
+    while i < Plan::NODES {
         set[i] = flag_at(mask, i);
         i += 1;
     }
