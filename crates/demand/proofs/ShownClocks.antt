@@ -1,5 +1,5 @@
--- What (b) and (c) ask of the clock, constructed for the latest moves of a past; and that a claim which is not met says that its premise fails.
-use Prim.Native.Nat.{ℕ, _<_}
+-- What (b) and (c) ask for, constructed of the latest moves of a past; and that it is not there where the claim is not met.
+use Prim.Native.Nat.{ℕ, _-_, _<_}
 use mathlib.Core.Path.{_≡_, sym, ap, _∙_}
 use mathlib.Core.Bool.{Bool, true, false}
 use mathlib.Core.Logic.{_⊎_, ⊎-elim}
@@ -45,18 +45,29 @@ module _ (p : Plan) (ok : planRefusal p ≡ 0) (moves : List Move) (i : ℕ) (l 
   abbrev at : Node
   at = nodeAt (run p moves .world .nodes) i
 
-  -- the premise of (b) where it does not hold of node i, and of (c) likewise
-  pub not-due : (Dark at → ⊥) → (off : ClockFor leavesOff (settlingTime (p .times)) (run p moves .past)) → none isAsk (off .recent) ≡ true → ⊥
-  not-due not off q = not (demand3 p ok moves .settles off q i l)
+  abbrev past : List Passed
+  past = run p moves .past
 
-  pub not-owed : (Up at → ⊥) → (on : ClockFor leavesOn (wakingTime (p .times)) (run p moves .past)) → none (reaches i) (on .recent) ≡ true → ⊥
-  not-owed not on q = not (demand3 p ok moves .wakes on i l q)
+  -- (b): the latest k moves are all that it asks for, so node i is dark
+  pub dark : (k : ℕ) → ticksIn (take k past) ≡ settlingTime (p .times) → every leavesOff (take k past) ≡ true → none isAsk (take k past) ≡ true → Dark at
+  dark k e f q = demand3 p ok moves .settles (clock-for k e f) q i l
 
-  -- n ticks are too few for (b), and for (c): the claim with n in place of its time is false
-  pub too-early : {n : ℕ} → (Dark at → ⊥) → (off : ClockFor leavesOff n (run p moves .past)) → none isAsk (off .recent) ≡ true
-      → SettlesAfter n p (run p moves .past) (run p moves .world .nodes) → ⊥
-  too-early not off q claim = not (claim off q i l)
+  -- node i is not: what (b) asks for is not there
+  pub undue : asleep (at .state) ≡ false → at .error ≡ false → (off : ClockFor leavesOff (settlingTime (p .times)) past) → none isAsk (off .recent) ≡ true → ⊥
+  undue s e off q = lit at s e (demand3 p ok moves .settles off q i l)
 
-  pub too-soon : {n : ℕ} → (Up at → ⊥) → (on : ClockFor leavesOn n (run p moves .past)) → none (reaches i) (on .recent) ≡ true
-      → WakesAfter n p (run p moves .past) (run p moves .world .nodes) → ⊥
-  too-soon not on q claim = not (claim on i l q)
+  -- nor is it with one tick less: (b) with that in place of the settling time is false
+  pub too-early : (k : ℕ) → ticksIn (take k past) ≡ settlingTime (p .times) - 1 → every leavesOff (take k past) ≡ true → none isAsk (take k past) ≡ true
+      → asleep (at .state) ≡ false → at .error ≡ false → SettlesAfter (settlingTime (p .times) - 1) p past (run p moves .world .nodes) → ⊥
+  too-early k e f q s r claim = lit at s r (claim (clock-for k e f) q i l)
+
+  -- (c) likewise
+  pub up : (k : ℕ) → ticksIn (take k past) ≡ wakingTime (p .times) → every leavesOn (take k past) ≡ true → none (reaches i) (take k past) ≡ true → Up at
+  up k e f q = demand3 p ok moves .wakes (clock-for k e f) i l q
+
+  pub unowed : isNormal (at .state) ≡ false → (on : ClockFor leavesOn (wakingTime (p .times)) past) → none (reaches i) (on .recent) ≡ true → ⊥
+  unowed s on q = down at s (demand3 p ok moves .wakes on i l q)
+
+  pub too-soon : (k : ℕ) → ticksIn (take k past) ≡ wakingTime (p .times) - 1 → every leavesOn (take k past) ≡ true → none (reaches i) (take k past) ≡ true
+      → isNormal (at .state) ≡ false → WakesAfter (wakingTime (p .times) - 1) p past (run p moves .world .nodes) → ⊥
+  too-soon k e f q s claim = down at s (claim (clock-for k e f) i l q)
