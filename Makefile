@@ -29,8 +29,8 @@ test:
 bench:
 	sh tests/c/bench.sh
 
-# Makes the test sets, the machines' cases, the lists of moves, recorded moves, the drill's scripts and what must be printed of them anew, from document 01
-# (needs python3).
+# Makes the test sets, the machines' cases, the lists of moves, the recorded moves, the drill's scripts and what must be printed of them
+# anew, from document 01 (needs python3).
 cases:
 	python3 tests/sets/make.py
 	python3 tests/machines/make.py

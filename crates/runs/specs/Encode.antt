@@ -4,11 +4,12 @@ use mathlib.Core.Path.{_≡_}
 use mathlib.Core.Bool.{Bool, true, false}
 use mathlib.Core.List.{List, [], _∷_, _++_}
 use lib.ListN.{length, replicate}
-use Rattle.blocks.specs.Bytes.{byte, twoBytes}
 use Rattle.plan.specs.Limits.{maxNodes}
+use Rattle.blocks.specs.Bytes.{byte, twoBytes}
 use Rattle.bus.specs.declared.Act.{Act}
 use Rattle.bus.specs.declared.Fate.{Fate}
 use Rattle.bus.specs.declared.Move.{Move}
+use Rattle.runs.specs.Encoding.{recordLength}
 use Rattle.runs.specs.Records.{listRight, movesOf}
 
 -- 1 for yes, 0 for no
@@ -102,6 +103,6 @@ AllFit (m ∷ moves) = Fits m × AllFit moves
 -- s says these moves: bytes below 256, 16 for each move, which are the list of them
 pub record Says (s : List ℕ) (moves : List Move) : Type 0 where
   pub bytes : (o : ℕ) → byte s o < 256
-  pub size : length s ≡ 16 * length moves
+  pub size : length s ≡ recordLength * length moves
   pub right : listRight s ≡ true
   pub back : movesOf s ≡ moves

@@ -5,13 +5,17 @@ use mathlib.Core.List.{List}
 use lib.Dec.{leb, ltb, eqb}
 use lib.ListN.{length}
 use Rattle.folds.specs.Fold.{pick, tab}
-use Rattle.blocks.specs.Bytes.{byte, number}
 use Rattle.plan.specs.Limits.{maxNodes}
+use Rattle.blocks.specs.Bytes.{byte, number}
 use Rattle.bus.specs.declared.Act.{Act}
 use Rattle.bus.specs.declared.Bus.{Bus}
 use Rattle.bus.specs.declared.Damage.{Damage}
 use Rattle.bus.specs.declared.Fate.{Fate}
 use Rattle.bus.specs.declared.Move.{Move}
+
+-- the bytes of a record: `RECORD_LENGTH`
+abbrev pub recordLength : ℕ
+recordLength = 16
 
 -- whether node i is in a set of nodes, bit 0 the lowest
 abbrev pub flagAt : ℕ → ℕ → Bool
@@ -70,5 +74,5 @@ hasFlag kind = eqb kind 3 || eqb kind 4 || eqb kind 8
 -- 16 bytes; acts 0 to 8; in every act byte 3 is 0 to 2 and bytes 8, 14 and 15 are 0 or 1, in those with a yes or no byte 2 is; any other byte may be anything
 abbrev pub isMove : List ℕ → Bool
 isMove s =
-    eqb (length s) 16 && leb (byte s 0) 8 && not (hasFlag (byte s 0) && ltb 1 (byte s 2))
+    eqb (length s) recordLength && leb (byte s 0) 8 && not (hasFlag (byte s 0) && ltb 1 (byte s 2))
     && leb (byte s 3) 2 && leb (byte s 8) 1 && leb (byte s 14) 1 && leb (byte s 15) 1

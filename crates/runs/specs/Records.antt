@@ -5,15 +5,15 @@ use mathlib.Core.List.{List, [], _∷_, map}
 use lib.ListN.{length, take, drop}
 use Rattle.folds.specs.Fold.{tab}
 use Rattle.bus.specs.declared.Move.{Move}
-use Rattle.runs.specs.Encoding.{moveOf, isMove}
+use Rattle.runs.specs.Encoding.{recordLength, moveOf, isMove}
 
 -- record k, counted from 0: 16 bytes, fewer where they end in it
 abbrev pub recordAt : List ℕ → ℕ → List ℕ
-recordAt s k = take 16 (drop (16 * k) s)
+recordAt s k = take recordLength (drop (recordLength * k) s)
 
 -- how many records there are, a short last one too
 abbrev pub recordCount : List ℕ → ℕ
-recordCount s = (length s + 15) / 16
+recordCount s = (length s + 15) / recordLength
 
 -- the bytes record by record
 unfoldable pub records : List ℕ → List (List ℕ)

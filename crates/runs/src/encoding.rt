@@ -1,7 +1,9 @@
 // A move of a record of 16 bytes.
 ghost use mathlib.Core.Path.{_≡_};
 ghost use Prim.Native.Nat.{_<_};
+ghost use Rattle.plan.specs.Limits.{maxNodes};
 ghost use Rattle.runs.specs.Encoding.{flagAt, flags, actOf, damageOf, fateOf, busOf, moveOf, hasFlag, isMove};
+use crate::RECORD_LENGTH;
 use blocks::byte_at;
 use blocks::number_at;
 use bus::Act;
@@ -13,7 +15,7 @@ use plan::Plan;
 
 // Whether node i is in a set of nodes, bit 0 the lowest.
 fn flag_at(mask: u16, i: usize) -> bool
-    requires { ⌜ i < 16 ⌝ }
+    requires { ⌜ i < maxNodes ⌝ }
     ensures { λ r. ⌜ r ≡ flagAt mask i ⌝ }
 {
     (mask >> i) % 2 == 1
@@ -124,7 +126,7 @@ pub fn is_move(bytes: &[u8]) -> bool
     ensures { λ r. ⌜ r ≡ isMove (now (bytes .entry)) ⌝ }
 {
     let kind = byte_at(bytes, 0);
-    (bytes.len() == 16)
+    (bytes.len() == RECORD_LENGTH)
         & (kind <= 8)
         & !(has_flag(kind) & (1 < byte_at(bytes, 2)))
         & (byte_at(bytes, 3) <= 2)

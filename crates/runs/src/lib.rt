@@ -31,6 +31,9 @@ pub use encoding::move_of;
 pub use records::record_at;
 pub use records::record_count;
 
+// The bytes of a record.
+pub const RECORD_LENGTH: usize = 16;
+
 // The machines after a list of moves, or why it did not run.
 pub struct Ran {
     pub refusal: u8,

@@ -1,14 +1,15 @@
 // Bytes as records of 16, the last of which may be short.
 ghost use mathlib.Core.Path.{_≡_};
 ghost use Rattle.runs.specs.Records.{recordAt, recordCount};
+use crate::RECORD_LENGTH;
 
 pub fn record_count(bytes: &[u8]) -> usize
     ensures { λ r. ⌜ r ≡ recordCount (now (bytes .entry)) ⌝ }
 {
-    if bytes.len() % 16 == 0 {
-        bytes.len() / 16
+    if bytes.len() % RECORD_LENGTH == 0 {
+        bytes.len() / RECORD_LENGTH
     } else {
-        bytes.len() / 16 + 1
+        bytes.len() / RECORD_LENGTH + 1
     }
 }
 
@@ -16,14 +17,14 @@ pub fn record_count(bytes: &[u8]) -> usize
 pub fn record_at(bytes: &[u8], k: usize) -> &[u8]
     ensures { λ r. ⌜ now r ≡ recordAt (now (bytes .entry)) k ⌝ }
 {
-    let whole = bytes.len() / 16;
+    let whole = bytes.len() / RECORD_LENGTH;
     if whole < k {
         return &bytes[..0];
     }
-    let start = 16 * k;
+    let start = RECORD_LENGTH * k;
     if whole == k {
         return &bytes[start..];
     }
-    let end = start + 16;
+    let end = start + RECORD_LENGTH;
     &bytes[start..end]
 }
