@@ -1,3 +1,4 @@
 pub mod Bytes
 pub mod Check
 pub mod Limits
+pub mod Puts

@@ -1,3 +1,3 @@
 pub mod MasterCalls
 pub mod NodeCalls
-pub mod SetCalls
+pub mod Version

@@ -5,31 +5,34 @@ use lib.ListN.{length}
 use lib.Seq.{sets}
 use lib.Dec.{ltb, eqb}
 use Rattle.folds.specs.Fold.{pick}
-use Rattle.reader.specs.Record.{readRecord}
+use Rattle.plan.specs.Rules.{planRefusal}
+use Rattle.plan_bytes.specs.Record.{recordOf}
 use Rattle.node.specs.declared.Reply.{Reply}
 use Rattle.node.specs.Changes.{powerOn, refuse}
 use Rattle.node.specs.Step.{stepUnder}
+use Rattle.node_bytes.specs.Places.{nodeLength, replyLength}
 use Rattle.node_bytes.specs.States.{nodeBytes, nodeOf}
 use Rattle.node_bytes.specs.Events.{eventOf}
-use Rattle.node_bytes.specs.Answers.{commandBytes}
+use Rattle.node_bytes.specs.Replies.{replied}
 
 -- power-on: 10 for a buffer that is too short, which stays
 abbrev pub nodeRoom : ℕ → ℕ
-nodeRoom room = pick (ltb room 143) 10 0
+nodeRoom room = pick (ltb room nodeLength) 10 0
 
 abbrev pub nodeOn : List ℕ → List ℕ
-nodeOn state = pick (ltb (length state) 143) state (sets state 0 (nodeBytes powerOn))
+nodeOn state = pick (ltb (length state) nodeLength) state (sets state 0 (nodeBytes powerOn))
 
--- the reply to a step on bytes, judged in the master's order
+-- the numbers of a step, in the master's order
 abbrev pub nodeReply : List ℕ → ℕ → List ℕ → List ℕ → ℕ → Reply
 nodeReply plan me state event room =
-    pick (eqb (readRecord plan .refusal) 0)
-    (pick (ltb room 4) (refuse powerOn 10) (stepUnder (readRecord plan .plan) me (nodeOf state) (eventOf event)))
-    (refuse powerOn (readRecord plan .refusal))
+    pick (eqb (planRefusal (recordOf plan)) 0)
+    (pick (ltb room replyLength) (refuse powerOn 10) (stepUnder (recordOf plan) me (nodeOf state) (eventOf event)))
+    (refuse powerOn (planRefusal (recordOf plan)))
 
--- a refused step leaves both buffers
+-- "A refused step returns the state as given"
 abbrev pub nodeLeaves : Reply → List ℕ → List ℕ
 nodeLeaves r state = pick (eqb (r .refusal) 0) (sets state 0 (nodeBytes (r .node))) state
 
-abbrev pub nodeAnswers : Reply → List ℕ → List ℕ
-nodeAnswers r answer = pick (eqb (r .refusal) 0) (sets answer 0 (commandBytes (r .command))) answer
+-- the reply is written in every call: "no command" where it is refused
+abbrev pub nodeReplies : Reply → List ℕ → List ℕ
+nodeReplies r reply = replied (r .command) reply

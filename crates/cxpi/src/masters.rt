@@ -1,23 +1,20 @@
 // Calls on the master.
 ghost use mathlib.Core.Path.{_≡_};
-ghost use Prim.Native.Nat.{_+_, _*_};
 ghost use lib.ListN.{length};
-ghost use Rattle.reader.specs.Record.{recordOf};
+ghost use Rattle.plan_bytes.specs.Record.{recordOf};
 ghost use Rattle.master.specs.Step.{rowAsked};
 ghost use Rattle.master.specs.Changes.{powerOn, refuse};
-ghost use Rattle.cxpi.specs.MasterCalls.{masterRoom, masterOn, masterReply, masterNumber, changesState, masterLeaves, masterAnswers};
-use blocks::put;
+ghost use Rattle.cxpi.specs.MasterCalls.{masterRoom, masterOn, masterReply, changesState, masterLeaves, masterReplies};
 use master::Command;
 use master::Event;
 use master::Master;
 use master::Reply;
-use master_bytes::answer_bytes;
 use master_bytes::event_of;
 use master_bytes::master_of;
 use master_bytes::put_master;
 use master_bytes::put_power_on;
+use master_bytes::put_reply;
 use plan::Lookup;
-use plan::Plan;
 
 #[no_mangle]
 pub extern "C" fn cxpi_master_power_on(state: &mut [u8]) -> u32
@@ -62,20 +59,17 @@ fn row_for(plan: &[u8], event: Event) -> Lookup
 fn reply_to(plan: &[u8], state: &[u8], event: &[u8], room: usize) -> Reply
     ensures { λ r. ⌜ r ≡ masterReply (now (plan .entry)) (now (state .entry)) (now (event .entry)) room ⌝ }
 {
-    if plan.len() != Plan::LENGTH {
-        return refused(1);
-    }
     let refusal = plan_bytes::refusal_of(plan);
-    if refusal == 0 {
-        if room < master_bytes::ANSWER_LENGTH {
-            return refused(10);
-        }
-        let happened = event_of(event);
-        let row = row_for(plan, happened);
-        let times = plan_bytes::times_of(plan);
-        return master_of(state).step_with(plan_bytes::node_count(plan), times, row, happened);
+    if refusal != 0 {
+        return refused(refusal);
     }
-    refused(refusal)
+    if room < master_bytes::REPLY_LENGTH {
+        return refused(10);
+    }
+    let happened = event_of(event);
+    let row = row_for(plan, happened);
+    let times = plan_bytes::times_of(plan);
+    master_of(state).step_with(plan_bytes::node_count(plan), times, row, happened)
 }
 
 fn changes_state(refusal: u8) -> bool
@@ -84,35 +78,25 @@ fn changes_state(refusal: u8) -> bool
     (refusal == 0) | (refusal == 13) | (refusal == 14)
 }
 
-fn number_of(refusal: u8, node: u8) -> u32
-    ensures { λ r. ⌜ r ≡ refusal + 256 * node ⌝ }
-{
-    (refusal as u32) + 256 * (node as u32)
-}
-
 #[no_mangle]
 pub extern "C" fn cxpi_master_step(
     plan: &[u8],
     state: &mut [u8],
     event: &[u8],
-    answer: &mut [u8],
+    reply: &mut [u8],
 ) -> u32
-    ensures { λ r. ⌜ (r ≡ masterNumber (masterReply (now (plan .entry)) (now (state .entry)) (now (event .entry)) (length (now (answer .entry)))))
-        × (now (state .exit) ≡ masterLeaves (masterReply (now (plan .entry)) (now (state .entry)) (now (event .entry)) (length (now (answer .entry)))) (now (state .entry)))
-        × (now (answer .exit) ≡ masterAnswers (masterReply (now (plan .entry)) (now (state .entry)) (now (event .entry)) (length (now (answer .entry)))) (now (answer .entry))) ⌝ }
+    ensures { λ r. ⌜ (r ≡ masterReply (now (plan .entry)) (now (state .entry)) (now (event .entry)) (length (now (reply .entry))) .refusal)
+        × (now (state .exit) ≡ masterLeaves (masterReply (now (plan .entry)) (now (state .entry)) (now (event .entry)) (length (now (reply .entry)))) (now (state .entry)))
+        × (now (reply .exit) ≡ masterReplies (masterReply (now (plan .entry)) (now (state .entry)) (now (event .entry)) (length (now (reply .entry)))) (now (reply .entry))) ⌝ }
 {
-    let reply = reply_to(plan, state, event, answer.len());
-    let refusal = reply.refusal;
-    let number = number_of(refusal, reply.node);
+    let given = reply_to(plan, state, event, reply.len());
+    let refusal = given.refusal;
+    let command = given.command;
+    put_reply(reply, command, given.lost, given.node);
     if !changes_state(refusal) {
-        return number;
+        return refusal as u32;
     }
-    let master = reply.master;
+    let master = given.master;
     put_master(state, master);
-    if refusal == 0 {
-        let command = reply.command;
-        let bytes = answer_bytes(command, reply.lost);
-        put(answer, 0, &bytes[..]);
-    }
-    number
+    refusal as u32
 }

@@ -1,22 +1,20 @@
 // Calls on a node.
 ghost use mathlib.Core.Path.{_≡_};
 ghost use lib.ListN.{length};
-ghost use Rattle.reader.specs.Record.{recordOf};
+ghost use Rattle.plan_bytes.specs.Record.{recordOf};
 ghost use Rattle.node.specs.Step.{rowAsked};
 ghost use Rattle.node.specs.Changes.{powerOn, refuse};
-ghost use Rattle.cxpi.specs.NodeCalls.{nodeRoom, nodeOn, nodeReply, nodeLeaves, nodeAnswers};
-use blocks::put;
+ghost use Rattle.cxpi.specs.NodeCalls.{nodeRoom, nodeOn, nodeReply, nodeLeaves, nodeReplies};
 use node::Command;
 use node::Event;
 use node::Node;
 use node::Reply;
-use node_bytes::command_bytes;
 use node_bytes::event_of;
 use node_bytes::node_of;
 use node_bytes::put_node;
 use node_bytes::put_power_on;
+use node_bytes::put_reply;
 use plan::Lookup;
-use plan::Plan;
 
 #[no_mangle]
 pub extern "C" fn cxpi_node_power_on(state: &mut [u8]) -> u32
@@ -59,28 +57,25 @@ fn row_for(plan: &[u8], event: Event) -> Lookup
 fn reply_to(plan: &[u8], me: u8, state: &[u8], event: &[u8], room: usize) -> Reply
     ensures { λ r. ⌜ r ≡ nodeReply (now (plan .entry)) me (now (state .entry)) (now (event .entry)) room ⌝ }
 {
-    if plan.len() != Plan::LENGTH {
-        return refused(1);
-    }
     let refusal = plan_bytes::refusal_of(plan);
-    if refusal == 0 {
-        if room < node_bytes::ANSWER_LENGTH {
-            return refused(10);
-        }
-        let happened = event_of(event);
-        let row = row_for(plan, happened);
-        let times = plan_bytes::times_of(plan);
-        let polled = plan_bytes::is_polled(plan, me);
-        return node_of(state).step_with(
-            plan_bytes::node_count(plan),
-            times,
-            me,
-            polled,
-            row,
-            happened,
-        );
+    if refusal != 0 {
+        return refused(refusal);
     }
-    refused(refusal)
+    if room < node_bytes::REPLY_LENGTH {
+        return refused(10);
+    }
+    let happened = event_of(event);
+    let row = row_for(plan, happened);
+    let times = plan_bytes::times_of(plan);
+    let polled = plan_bytes::is_polled(plan, me);
+    node_of(state).step_with(
+        plan_bytes::node_count(plan),
+        times,
+        me,
+        polled,
+        row,
+        happened,
+    )
 }
 
 #[no_mangle]
@@ -89,21 +84,20 @@ pub extern "C" fn cxpi_node_step(
     me: u8,
     state: &mut [u8],
     event: &[u8],
-    answer: &mut [u8],
+    reply: &mut [u8],
 ) -> u32
-    ensures { λ r. ⌜ (r ≡ nodeReply (now (plan .entry)) me (now (state .entry)) (now (event .entry)) (length (now (answer .entry))) .refusal)
-        × (now (state .exit) ≡ nodeLeaves (nodeReply (now (plan .entry)) me (now (state .entry)) (now (event .entry)) (length (now (answer .entry)))) (now (state .entry)))
-        × (now (answer .exit) ≡ nodeAnswers (nodeReply (now (plan .entry)) me (now (state .entry)) (now (event .entry)) (length (now (answer .entry)))) (now (answer .entry))) ⌝ }
+    ensures { λ r. ⌜ (r ≡ nodeReply (now (plan .entry)) me (now (state .entry)) (now (event .entry)) (length (now (reply .entry))) .refusal)
+        × (now (state .exit) ≡ nodeLeaves (nodeReply (now (plan .entry)) me (now (state .entry)) (now (event .entry)) (length (now (reply .entry)))) (now (state .entry)))
+        × (now (reply .exit) ≡ nodeReplies (nodeReply (now (plan .entry)) me (now (state .entry)) (now (event .entry)) (length (now (reply .entry)))) (now (reply .entry))) ⌝ }
 {
-    let reply = reply_to(plan, me, state, event, answer.len());
-    let refusal = reply.refusal;
+    let given = reply_to(plan, me, state, event, reply.len());
+    let refusal = given.refusal;
+    let command = given.command;
+    put_reply(reply, command);
     if refusal != 0 {
         return refusal as u32;
     }
-    let node = reply.node;
-    let command = reply.command;
-    let bytes = command_bytes(command);
+    let node = given.node;
     put_node(state, node);
-    put(answer, 0, &bytes[..]);
     0
 }

@@ -1,38 +1,27 @@
 // Calls on release sets.
 ghost use mathlib.Core.Path.{_≡_};
 ghost use lib.ListN.{length};
-ghost use Rattle.cxpi.specs.SetCalls.{readNumber, readLeaves, writeNumber, writeLeaves};
-use plan::Plan;
-use reader::read;
-use reader::record_of;
-use writer::write;
+ghost use Rattle.plan_bytes.specs.Record.{recordOf, recordWritten};
+ghost use Rattle.reader.specs.Read.{readSet, recordRefusal};
+ghost use Rattle.writer.specs.Write.{writeAnswer, written};
+use reader::read_record;
 use writer::write_record;
 
 #[no_mangle]
 pub extern "C" fn cxpi_read(set: &[u8], plan: &mut [u8]) -> u32
-    ensures { λ r. ⌜ (r ≡ readNumber (now (set .entry)) (length (now (plan .entry))))
-        × (now (plan .exit) ≡ readLeaves (now (set .entry)) (now (plan .entry))) ⌝ }
+    ensures { λ r. ⌜ (r ≡ recordRefusal (now (set .entry)) (length (now (plan .entry))))
+        × (now (plan .exit) ≡ recordWritten (readSet (now (set .entry)) .plan) (now (plan .entry))) ⌝ }
 {
-    let answer = read(set);
-    let refusal = answer.refusal;
-    if refusal != 0 {
-        return refusal as u32;
-    }
-    let record = answer.plan;
-    write_record(record, plan) as u32
+    read_record(set, plan) as u32
 }
 
 #[no_mangle]
-pub extern "C" fn cxpi_write(plan: &[u8], set: &mut [u8]) -> u32
-    ensures { λ r. ⌜ (r ≡ writeNumber (now (plan .entry)) (length (now (set .entry))))
-        × (now (set .exit) ≡ writeLeaves (now (plan .entry)) (now (set .entry))) ⌝ }
+pub extern "C" fn cxpi_write(plan: &[u8], set: &mut [u8], size: &mut u16) -> u32
+    ensures { λ r. ⌜ (r ≡ writeAnswer (recordOf (now (plan .entry))) (length (now (set .entry))) .refusal)
+        × (now (set .exit) ≡ written (recordOf (now (plan .entry))) (now (set .entry)))
+        × (now (size .exit) ≡ writeAnswer (recordOf (now (plan .entry))) (length (now (set .entry))) .length) ⌝ }
 {
-    if plan.len() != Plan::LENGTH {
-        return 1;
-    }
-    let answer = write(record_of(plan), set);
-    if answer.refusal != 0 {
-        return answer.refusal as u32;
-    }
-    answer.length as u32
+    let answer = write_record(plan, set);
+    *size = answer.length as u16;
+    answer.refusal as u32
 }

@@ -6,7 +6,8 @@ use Rattle.machine.specs.Counts.{countsBelow}
 use Rattle.plan.specs.Record.{zeroPlan}
 use Rattle.plan.specs.Rules.{timesRight, entryRight, differs, nodeRight, nodesRight, reqidBefore, rowAfter, rowRight, rowsRight, isFrom, publishes, allPublish, planRefusal}
 use Rattle.plan.specs.Find.{hasReqid, rowAmong, findRow}
-use Rattle.reader.specs.Layout.{timesFrom, entryFrom, nodeOf, nodesOf, rowcountOf, rowPlace, rowFrom, rowOf, rowsOf, planOf}
+use Rattle.plan_bytes.specs.Entries.{timesFrom, entryFrom, rowFrom}
+use Rattle.reader.specs.Layout.{nodeOf, nodesOf, rowcountOf, rowPlace, rowOf, rowsOf, planOf}
 use Rattle.reader.specs.Rules.{lengthRight, checkRight, checksRight, blockType, typeRight, typesRight, revisionSame, revisionsSame, countsRight, named, fillerAt, fillerRight}
 use Rattle.reader.specs.Read.{setRefusal, readSet}
 use Rattle.writer.specs.Write.{withCheck}

@@ -1,4 +1,4 @@
--- The master's state as 185 bytes.
+-- The master's state as bytes.
 use Prim.Native.Nat.{ℕ, _+_, _*_, _/_, _%_}
 use mathlib.Core.Bool.{Bool, _&&_}
 use mathlib.Core.List.{List, [], _∷_, _++_}
@@ -12,6 +12,7 @@ use Rattle.master.specs.declared.Phase.{Phase}
 use Rattle.master.specs.declared.Hold.{Hold}
 use Rattle.master.specs.declared.Master.{Master}
 use Rattle.master.specs.Changes.{noHold, powerOn, withDelay}
+use Rattle.master_bytes.specs.Places.{stateAt, phaseAt, permissionAt, delayAt, ticksAt, holdsAt, countsAt, masterLength}
 
 -- "phase 0 Open, 1 Sending, 2 Withdrawn, 3 Closing"
 abbrev pub phaseByte : Phase → ℕ
@@ -24,7 +25,7 @@ phaseByte Phase.Closing = 3
 abbrev pub phaseOf : ℕ → Phase
 phaseOf b = pick (eqb b 0) Phase.Open (pick (eqb b 1) Phase.Sending (pick (eqb b 2) Phase.Withdrawn Phase.Closing))
 
--- 0 state, 1 phase, 2 own permission, 3-4 delay, 5-8 tick number
+-- state, phase, own permission, delay, tick number
 abbrev pub masterHead : Master → List ℕ
 masterHead m = stateByte (m .state) ∷ phaseByte (m .phase) ∷ flagByte (m .permission) ∷ twoBytes (m .delay) ++ fourBytes (m .ticks)
 
@@ -35,7 +36,7 @@ holdBytes h = flagByte (h .held) ∷ twoBytes (h .age)
 abbrev pub holdFrom : List ℕ → ℕ → Hold
 holdFrom s o = record { held = flagOf (byte s o); age = number s (o + 1) }
 
--- 9-56 the permissions of sixteen nodes
+-- the permissions of sixteen nodes
 abbrev pub holdByteAt : List Hold → ℕ → ℕ
 holdByteAt holds i = getD (holdBytes (getD holds (i / 3) noHold)) (i % 3) 0
 
@@ -43,25 +44,25 @@ unfoldable pub holdsBytes : List Hold → List ℕ
 holdsBytes holds = tab 48 (holdByteAt holds)
 
 abbrev pub holdOf : List ℕ → ℕ → Hold
-holdOf s k = holdFrom s (9 + 3 * k)
+holdOf s k = holdFrom s (holdsAt + 3 * k)
 
 unfoldable pub holdsOf : List ℕ → List Hold
 holdsOf s = tab maxNodes (holdOf s)
 
--- 57-184 the last sequence count of each ReqId
+-- then the last sequence count of each ReqId
 unfoldable pub masterBytes : Master → List ℕ
 masterBytes m = masterHead m ++ holdsBytes (m .holds) ++ m .counts
 
 abbrev pub flagAt : List ℕ → ℕ → Bool
-flagAt s k = ltb (byte s (9 + 3 * k)) 2
+flagAt s k = ltb (byte s (holdsAt + 3 * k)) 2
 
 -- "bytes that are no state": another length, a state above 2, a phase above 3, a flag above 1
 unfoldable pub isMaster : List ℕ → Bool
-isMaster s = eqb (length s) 185 && ltb (byte s 0) 3 && ltb (byte s 1) 4 && ltb (byte s 2) 2 && allTo (flagAt s) maxNodes
+isMaster s = eqb (length s) masterLength && ltb (byte s stateAt) 3 && ltb (byte s phaseAt) 4 && ltb (byte s permissionAt) 2 && allTo (flagAt s) maxNodes
 
 abbrev pub masterFrom : List ℕ → Master
 masterFrom s =
-    record { state = stateOf (byte s 0); phase = phaseOf (byte s 1); permission = flagOf (byte s 2); holds = holdsOf s; counts = tableAt s 57; delay = number s 3; ticks = longNumber s 5 }
+    record { state = stateOf (byte s stateAt); phase = phaseOf (byte s phaseAt); permission = flagOf (byte s permissionAt); holds = holdsOf s; counts = tableAt s countsAt; delay = number s delayAt; ticks = longNumber s ticksAt }
 
 -- a master out of range under every plan: "a delay below C in Standby, below D in Closing, else 0"
 abbrev pub noMaster : Master

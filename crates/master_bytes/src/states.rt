@@ -6,6 +6,14 @@ ghost use Rattle.folds.specs.Fold.{allTo};
 ghost use Rattle.plan.specs.Limits.{maxNodes};
 ghost use Rattle.master.specs.Changes.{powerOn};
 ghost use Rattle.master_bytes.specs.States.{phaseByte, phaseOf, masterHead, holdsBytes, holdOf, holdsOf, masterBytes, flagAt, isMaster, masterFrom, noMaster, masterOf};
+use crate::places::COUNTS_AT;
+use crate::places::DELAY_AT;
+use crate::places::HOLDS_AT;
+use crate::places::LENGTH;
+use crate::places::PERMISSION_AT;
+use crate::places::PHASE_AT;
+use crate::places::STATE_AT;
+use crate::places::TICKS_AT;
 use blocks::byte_at;
 use blocks::long_number;
 use blocks::number_at;
@@ -47,7 +55,7 @@ fn phase_of(byte: u8) -> Phase
     Phase::Closing
 }
 
-fn master_head(master: Master) -> [u8; 9]
+fn master_head(master: Master) -> [u8; HOLDS_AT]
     ensures { λ r. ⌜ r ≡ masterHead master ⌝ }
 {
     let state = master.state;
@@ -67,10 +75,10 @@ fn master_head(master: Master) -> [u8; 9]
     ]
 }
 
-fn holds_bytes(holds: [Hold; Plan::NODES]) -> [u8; 48]
+fn holds_bytes(holds: [Hold; Plan::NODES]) -> [u8; COUNTS_AT - HOLDS_AT]
     ensures { λ r. ⌜ r ≡ holdsBytes holds ⌝ }
 {
-    let mut bytes = [0; 48];
+    let mut bytes = [0; COUNTS_AT - HOLDS_AT];
     let mut k: usize = 0;
     while k < Plan::NODES {
         let hold = holds[k];
@@ -91,19 +99,19 @@ pub fn put_master(buffer: &mut [u8], master: Master)
     let head = master_head(master);
     let permissions = holds_bytes(holds);
     put(buffer, 0, &head[..]);
-    put(buffer, 9, &permissions[..]);
-    put(buffer, 57, &counts[..]);
+    put(buffer, HOLDS_AT, &permissions[..]);
+    put(buffer, COUNTS_AT, &counts[..]);
 }
 
 // Puts the state at power-on at the front of a buffer: constants, which the compiler stores without reckoning them from a master.
 pub fn put_power_on(buffer: &mut [u8])
     ensures { λ _. ⌜ now (buffer .exit) ≡ sets (now (buffer .entry)) 0 (masterBytes powerOn) ⌝ }
 {
-    let mut front = [0; 57];
-    front[0] = state_byte(State::Sleep);
+    let mut front = [0; COUNTS_AT];
+    front[STATE_AT] = state_byte(State::Sleep);
     let counts = [Master::NO_COUNT; Row::REQIDS];
     put(buffer, 0, &front[..]);
-    put(buffer, 57, &counts[..]);
+    put(buffer, COUNTS_AT, &counts[..]);
 }
 
 // Whether each permission has a flag. No exit, so that the loop is compiled to straight code.
@@ -113,7 +121,7 @@ fn flags_right(bytes: &[u8]) -> bool
     let mut right: bool = true;
     let mut k: usize = 0;
     while k < Plan::NODES {
-        right = right & (byte_at(bytes, 9 + 3 * k) < 2);
+        right = right & (byte_at(bytes, HOLDS_AT + 3 * k) < 2);
         k += 1;
     }
     right
@@ -122,10 +130,10 @@ fn flags_right(bytes: &[u8]) -> bool
 fn is_master(bytes: &[u8]) -> bool
     ensures { λ r. ⌜ r ≡ isMaster (now (bytes .entry)) ⌝ }
 {
-    (bytes.len() == crate::LENGTH)
-        & (byte_at(bytes, 0) < 3)
-        & (byte_at(bytes, 1) < 4)
-        & (byte_at(bytes, 2) < 2)
+    (bytes.len() == LENGTH)
+        & (byte_at(bytes, STATE_AT) < 3)
+        & (byte_at(bytes, PHASE_AT) < 4)
+        & (byte_at(bytes, PERMISSION_AT) < 2)
         & flags_right(bytes)
 }
 
@@ -134,8 +142,8 @@ fn hold_of(bytes: &[u8], k: usize) -> Hold
     ensures { λ r. ⌜ r ≡ holdOf (now (bytes .entry)) k ⌝ }
 {
     Hold {
-        held: byte_at(bytes, 9 + 3 * k) == 1,
-        age: number_at(bytes, 9 + 3 * k + 1),
+        held: byte_at(bytes, HOLDS_AT + 3 * k) == 1,
+        age: number_at(bytes, HOLDS_AT + 3 * k + 1),
     }
 }
 
@@ -154,18 +162,18 @@ fn holds_of(bytes: &[u8]) -> [Hold; Plan::NODES]
 fn master_from(bytes: &[u8]) -> Master
     ensures { λ r. ⌜ r ≡ masterFrom (now (bytes .entry)) ⌝ }
 {
-    let state = state_of(byte_at(bytes, 0));
-    let phase = phase_of(byte_at(bytes, 1));
+    let state = state_of(byte_at(bytes, STATE_AT));
+    let phase = phase_of(byte_at(bytes, PHASE_AT));
     let holds = holds_of(bytes);
-    let counts = table_at(bytes, 57);
+    let counts = table_at(bytes, COUNTS_AT);
     Master {
         state,
         phase,
-        permission: byte_at(bytes, 2) == 1,
+        permission: byte_at(bytes, PERMISSION_AT) == 1,
         holds,
         counts,
-        delay: number_at(bytes, 3),
-        ticks: long_number(number_at(bytes, 5), number_at(bytes, 7)),
+        delay: number_at(bytes, DELAY_AT),
+        ticks: long_number(number_at(bytes, TICKS_AT), number_at(bytes, TICKS_AT + 2)),
     }
 }
 
@@ -184,7 +192,7 @@ pub fn master_of(bytes: &[u8]) -> Master
     ensures { λ r. ⌜ r ≡ masterOf (now (bytes .entry)) ⌝ }
 {
     // A known length spares the tests of each byte.
-    if bytes.len() != crate::LENGTH {
+    if bytes.len() != LENGTH {
         return no_master();
     }
     if is_master(bytes) {

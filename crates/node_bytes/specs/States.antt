@@ -1,5 +1,5 @@
--- A node's state as 143 bytes.
-use Prim.Native.Nat.{ℕ}
+-- A node's state as bytes.
+use Prim.Native.Nat.{ℕ, _+_}
 use mathlib.Core.Bool.{Bool, _&&_, _||_}
 use mathlib.Core.List.{List, [], _∷_, _++_}
 use lib.ListN.{length}
@@ -10,8 +10,9 @@ use Rattle.machine.specs.Bytes.{stateByte, stateOf, flagByte, flagOf}
 use Rattle.node.specs.declared.Delay.{Delay}
 use Rattle.node.specs.declared.Node.{Node}
 use Rattle.node.specs.Changes.{powerOn, withStandby}
+use Rattle.node_bytes.specs.Places.{stateAt, permissionAt, errorAt, wakeAt, heardAt, callerAt, quietAt, delayAt, standbyAt, countsAt, nodeLength}
 
--- 8: 1 while a sleep delay runs, else 0; 9-10 its ticks, 0 where none runs
+-- a sleep delay: 1 while it runs, else 0; its ticks, 0 where none runs
 abbrev pub delayBytes : Delay → List ℕ
 delayBytes Delay.Off = 0 ∷ 0 ∷ 0 ∷ []
 delayBytes (Delay.On ticks) = 1 ∷ twoBytes ticks
@@ -19,25 +20,25 @@ delayBytes (Delay.On ticks) = 1 ∷ twoBytes ticks
 abbrev pub delayOf : ℕ → ℕ → Delay
 delayOf runs ticks = pick (eqb runs 1) (Delay.On ticks) Delay.Off
 
--- 0 state, 1 permission, 2 network error, 3 wake bit, 4 heard, 5 caller, 6-7 quiet count, 8-10 sleep delay, 11-14 standby count
+-- state, permission, network error, wake bit, heard, caller, quiet count, sleep delay, standby count
 abbrev pub nodeHead : Node → List ℕ
 nodeHead n =
     stateByte (n .state) ∷ flagByte (n .permission) ∷ flagByte (n .error) ∷ flagByte (n .wake) ∷ flagByte (n .heard) ∷ flagByte (n .caller)
     ∷ twoBytes (n .quiet) ++ delayBytes (n .delay) ++ fourBytes (n .standby)
 
--- 15-142 the sequence count of each ReqId
+-- then the sequence count of each ReqId
 unfoldable pub nodeBytes : Node → List ℕ
 nodeBytes n = nodeHead n ++ n .counts
 
 -- "bytes that are no state": another length, a state above 2, a flag above 1, ticks of a delay that does not run
 unfoldable pub isNode : List ℕ → Bool
 isNode s =
-    eqb (length s) 143 && ltb (byte s 0) 3 && ltb (byte s 1) 2 && ltb (byte s 2) 2 && ltb (byte s 3) 2 && ltb (byte s 4) 2 && ltb (byte s 5) 2
-    && ltb (byte s 8) 2 && (eqb (byte s 8) 1 || eqb (number s 9) 0)
+    eqb (length s) nodeLength && ltb (byte s stateAt) 3 && ltb (byte s permissionAt) 2 && ltb (byte s errorAt) 2 && ltb (byte s wakeAt) 2 && ltb (byte s heardAt) 2 && ltb (byte s callerAt) 2
+    && ltb (byte s delayAt) 2 && (eqb (byte s delayAt) 1 || eqb (number s (delayAt + 1)) 0)
 
 abbrev pub nodeFrom : List ℕ → Node
 nodeFrom s =
-    record { state = stateOf (byte s 0); permission = flagOf (byte s 1); error = flagOf (byte s 2); wake = flagOf (byte s 3); heard = flagOf (byte s 4); caller = flagOf (byte s 5); quiet = number s 6; delay = delayOf (byte s 8) (number s 9); standby = longNumber s 11; counts = tableAt s 15 }
+    record { state = stateOf (byte s stateAt); permission = flagOf (byte s permissionAt); error = flagOf (byte s errorAt); wake = flagOf (byte s wakeAt); heard = flagOf (byte s heardAt); caller = flagOf (byte s callerAt); quiet = number s quietAt; delay = delayOf (byte s delayAt) (number s (delayAt + 1)); standby = longNumber s standbyAt; counts = tableAt s countsAt }
 
 -- a node out of range under every plan: "outside Standby .. count 0"
 abbrev pub noNode : Node

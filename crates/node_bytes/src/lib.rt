@@ -1,15 +1,13 @@
-// A node's states, events and answers as bytes.
-mod answers;
+// A node's states, events and replies as bytes.
 mod events;
+mod places;
+mod replies;
 mod states;
 
-pub use answers::command_bytes;
 pub use events::event_of;
+pub use places::LENGTH;
+pub use places::REPLY_LENGTH;
+pub use replies::put_reply;
 pub use states::node_of;
 pub use states::put_node;
 pub use states::put_power_on;
-
-// The bytes of a state.
-pub const LENGTH: usize = 143;
-// The bytes of an answer.
-pub const ANSWER_LENGTH: usize = 4;

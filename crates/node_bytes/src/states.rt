@@ -3,6 +3,17 @@ ghost use mathlib.Core.Path.{_≡_};
 ghost use lib.Seq.{sets};
 ghost use Rattle.node.specs.Changes.{powerOn};
 ghost use Rattle.node_bytes.specs.States.{delayBytes, delayOf, nodeHead, nodeBytes, isNode, nodeFrom, noNode, nodeOf};
+use crate::places::CALLER_AT;
+use crate::places::COUNTS_AT;
+use crate::places::DELAY_AT;
+use crate::places::ERROR_AT;
+use crate::places::HEARD_AT;
+use crate::places::LENGTH;
+use crate::places::PERMISSION_AT;
+use crate::places::QUIET_AT;
+use crate::places::STANDBY_AT;
+use crate::places::STATE_AT;
+use crate::places::WAKE_AT;
 use blocks::byte_at;
 use blocks::long_number;
 use blocks::number_at;
@@ -34,7 +45,7 @@ fn delay_of(runs: u8, ticks: u16) -> Delay
     }
 }
 
-fn node_head(node: Node) -> [u8; 15]
+fn node_head(node: Node) -> [u8; COUNTS_AT]
     ensures { λ r. ⌜ r ≡ nodeHead node ⌝ }
 {
     let state = node.state;
@@ -68,48 +79,48 @@ pub fn put_node(buffer: &mut [u8], node: Node)
     let counts = node.counts;
     let head = node_head(node);
     put(buffer, 0, &head[..]);
-    put(buffer, 15, &counts[..]);
+    put(buffer, COUNTS_AT, &counts[..]);
 }
 
 // Puts the state at power-on at the front of a buffer: constants, which the compiler stores without reckoning them from a node.
 pub fn put_power_on(buffer: &mut [u8])
     ensures { λ _. ⌜ now (buffer .exit) ≡ sets (now (buffer .entry)) 0 (nodeBytes powerOn) ⌝ }
 {
-    let mut bytes = [0; crate::LENGTH];
-    bytes[0] = state_byte(State::Sleep);
+    let mut bytes = [0; LENGTH];
+    bytes[STATE_AT] = state_byte(State::Sleep);
     put(buffer, 0, &bytes[..]);
 }
 
 fn is_node(bytes: &[u8]) -> bool
     ensures { λ r. ⌜ r ≡ isNode (now (bytes .entry)) ⌝ }
 {
-    (bytes.len() == crate::LENGTH)
-        & (byte_at(bytes, 0) < 3)
-        & (byte_at(bytes, 1) < 2)
-        & (byte_at(bytes, 2) < 2)
-        & (byte_at(bytes, 3) < 2)
-        & (byte_at(bytes, 4) < 2)
-        & (byte_at(bytes, 5) < 2)
-        & (byte_at(bytes, 8) < 2)
-        & ((byte_at(bytes, 8) == 1) | (number_at(bytes, 9) == 0))
+    (bytes.len() == LENGTH)
+        & (byte_at(bytes, STATE_AT) < 3)
+        & (byte_at(bytes, PERMISSION_AT) < 2)
+        & (byte_at(bytes, ERROR_AT) < 2)
+        & (byte_at(bytes, WAKE_AT) < 2)
+        & (byte_at(bytes, HEARD_AT) < 2)
+        & (byte_at(bytes, CALLER_AT) < 2)
+        & (byte_at(bytes, DELAY_AT) < 2)
+        & ((byte_at(bytes, DELAY_AT) == 1) | (number_at(bytes, DELAY_AT + 1) == 0))
 }
 
 fn node_from(bytes: &[u8]) -> Node
     ensures { λ r. ⌜ r ≡ nodeFrom (now (bytes .entry)) ⌝ }
 {
-    let state = state_of(byte_at(bytes, 0));
-    let delay = delay_of(byte_at(bytes, 8), number_at(bytes, 9));
-    let counts = table_at(bytes, 15);
+    let state = state_of(byte_at(bytes, STATE_AT));
+    let delay = delay_of(byte_at(bytes, DELAY_AT), number_at(bytes, DELAY_AT + 1));
+    let counts = table_at(bytes, COUNTS_AT);
     Node {
         state,
-        permission: byte_at(bytes, 1) == 1,
-        error: byte_at(bytes, 2) == 1,
-        wake: byte_at(bytes, 3) == 1,
-        heard: byte_at(bytes, 4) == 1,
-        caller: byte_at(bytes, 5) == 1,
-        quiet: number_at(bytes, 6),
+        permission: byte_at(bytes, PERMISSION_AT) == 1,
+        error: byte_at(bytes, ERROR_AT) == 1,
+        wake: byte_at(bytes, WAKE_AT) == 1,
+        heard: byte_at(bytes, HEARD_AT) == 1,
+        caller: byte_at(bytes, CALLER_AT) == 1,
+        quiet: number_at(bytes, QUIET_AT),
         delay,
-        standby: long_number(number_at(bytes, 11), number_at(bytes, 13)),
+        standby: long_number(number_at(bytes, STANDBY_AT), number_at(bytes, STANDBY_AT + 2)),
         counts,
     }
 }

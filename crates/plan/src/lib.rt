@@ -138,8 +138,6 @@ impl Plan {
     pub const BLOCK_ROWS: u16 = 100;
     // The publisher's number of a row of the master.
     pub const MASTER: u8 = 255;
-    // The bytes of a packed record.
-    pub const LENGTH: usize = 591;
 
     // Whether a node is polled.
     pub fn is_polled(self, node: u8) -> bool

@@ -9,7 +9,7 @@ use Rattle.plan.specs.declared.NodeEntry.{NodeEntry}
 use Rattle.plan.specs.Record.{entryAt, zeroEntry}
 use Rattle.plan.specs.Rules.{entryRight, nodeRight}
 use Rattle.plan.proofs.Addresses.{hasAddress, wrong-entry, again, right-new}
-use Rattle.reader.specs.Record.{recordEntry, nodesIn}
+use Rattle.plan_bytes.specs.Record.{recordEntry, nodesIn}
 
 pub entry-in : (s : List ℕ) (k : ℕ) → k < 16 → entryAt (nodesIn s) k ≡ recordEntry s k
 entry-in s k h = getD-tab 16 (recordEntry s) k zeroEntry h

@@ -1,17 +1,25 @@
--- The record of bytes: the plan in them where there are 591, else the all-zero record.
-use Prim.Native.Nat.{ℕ, zero, suc}
-use mathlib.Core.Path.{_≡_, refl}
-use mathlib.Core.Bool.{false}
-use mathlib.Core.List.{List}
-use lib.ListN.{length, getD, replicate}
-use borrow.Author.Tests.{eq-eqb, ne-eqb}
+-- The record of bytes: the plan in them where they have its length, else the all-zero record; and the bytes of that one.
+use Prim.Native.Nat.{ℕ, zero, suc, _+_, _-_, _/_, _%_, _≤_, _<_}
+use mathlib.Core.Path.{_≡_, refl, ap, sym, _∙_}
+use mathlib.Core.Bool.{Bool, true, false}
+use mathlib.Core.List.{List, _++_, append-nil}
+use lib.ListN.{length, getD, drop, replicate, length-replicate, getD-replicate, drop-of-length-le}
+use lib.Seq.{sets}
+use lib.Dec.{eqb}
+use native.Mathlib.Omega.{arith}
+use native.Mathlib.Decide.{decLt}
+use borrow.Author.Tests.{eq-eqb, ne-eqb, lt-ltb, le-ltb, eqb-true, eqb-false}
 use Rattle.folds.specs.Fold.{firstTo}
-use Rattle.plan.specs.declared.NodeEntry.{NodeEntry}
+use Rattle.folds.proofs.Tables.{tab-of, getD-tab, length-tab}
+use Rattle.blocks.proofs.Puts.{put-as, put-whole, put-list, put-zero-run}
+use Rattle.blocks.specs.Bytes.{byte}
+use Rattle.plan.specs.declared.Plan.{Plan}
 use Rattle.plan.specs.declared.Lookup.{Lookup}
-use Rattle.plan.specs.Record.{zeroEntry, zeroPlan}
+use Rattle.plan.specs.Record.{zeroEntry, zeroRow, zeroPlan}
+use Rattle.plan.specs.Rules.{planRefusal}
 use Rattle.plan.specs.Answers.{isPolled}
 use Rattle.plan.specs.Find.{findRow, rowAmong}
-use Rattle.reader.specs.Record.{planIn, recordOf}
+use Rattle.plan_bytes.specs.Record.{planIn, recordOf, recordHead, recordByte, recordBytes}
 
 pub record-in : (s : List ℕ) → length s ≡ 591 → planIn s ≡ recordOf s
 unfolding recordOf
@@ -21,10 +29,11 @@ pub record-none : (s : List ℕ) → (length s ≡ 591 → ⊥) → zeroPlan ≡
 unfolding recordOf
 record-none s h = rw (ne-eqb (length s) 591 h)
 
-all-same : (n k : ℕ) (e : NodeEntry) → getD (replicate n e) k e ≡ e
-all-same zero k e = refl
-all-same (suc n) zero e = refl
-all-same (suc n) (suc k) e = all-same n k e
+module _ {A : Type 0} where
+  all-same : (n k : ℕ) (e : A) → getD (replicate n e) k e ≡ e
+  all-same zero k e = refl
+  all-same (suc n) zero e = refl
+  all-same (suc n) (suc k) e = all-same n k e
 
 pub none-polled : (s : List ℕ) (k : ℕ) → (length s ≡ 591 → ⊥) → false ≡ isPolled (recordOf s) k
 unfolding zeroPlan
@@ -33,3 +42,46 @@ none-polled s k h = rw (← record-none s h, all-same 16 k zeroEntry)
 pub no-row : (s : List ℕ) (reqid : ℕ) → (length s ≡ 591 → ⊥) → Lookup.Missing ≡ findRow (recordOf s) reqid
 unfolding zeroPlan findRow rowAmong firstTo
 no-row s reqid h = rw (← record-none s h)
+
+-- each byte of the all-zero record is 0
+zero-byte : (o : ℕ) → o < 591 → _≡_ {A = ℕ} 0 (recordByte zeroPlan o)
+unfolding zeroPlan recordByte recordHead
+zero-byte o h = go (decLt o 19) (decLt o 83)
+  where
+    go : Dec (o < 19) → Dec (o < 83) → _≡_ {A = ℕ} 0 (recordByte zeroPlan o)
+    go (yes a) b = rw (lt-ltb o 19 a) (sym (all-same 19 o 0))
+    go (no a) (yes b) = rw (le-ltb o 19 (omega arith), lt-ltb o 83 b, all-same 16 ((o - 19) / 4) zeroEntry) (sym (all-same 4 ((o - 19) % 4) 0))
+    go (no a) (no b) = rw (le-ltb o 19 (omega arith), le-ltb o 83 (omega arith), all-same 127 (0 + (o - 83) / 4) zeroRow) (sym (all-same 4 ((o - 83) % 4) 0))
+
+-- zeros from the front on are the all-zero record
+pub zeros-put : (d x : List ℕ) → x ≡ sets d 0 (replicate 591 0) → 591 ≤ length d → x ≡ recordBytes zeroPlan ++ drop 591 d
+unfolding recordBytes
+zeros-put d x e long = put-whole 591 (recordByte zeroPlan) d x (put-as 0 591 (λ i. 0) (recordByte zeroPlan) d x (put-zero-run 0 591 d x e long) zero-byte) long
+
+-- "an all-zero record" is zero bytes
+pub zero-bytes : recordBytes zeroPlan ≡ replicate 591 0
+unfolding recordBytes
+zero-bytes = sym (tab-of 0 591 (recordByte zeroPlan) (replicate 591 0) (length-replicate {A = ℕ} 591 0) (λ o h. getD-replicate 591 o 0 0 h ∙ zero-byte o h))
+
+-- a record stored at the front of a buffer
+pub record-front : (p : Plan) (d x : List ℕ) → x ≡ sets d 0 (recordBytes p) → 591 ≤ length d → x ≡ recordBytes p ++ drop 591 d
+unfolding recordBytes
+record-front p d x e long =
+    let n : length (recordBytes p) ≡ 591 = length-tab 591 (recordByte p) in
+    put-whole 591 (recordByte p) d x (put-as 0 591 (byte (recordBytes p)) (recordByte p) d x (rw n at (put-list 0 (recordBytes p) d x e (omega arith))) (λ i h. getD-tab 591 (recordByte p) i 0 h)) long
+
+-- a record in a buffer of its length
+pub record-whole : (p : Plan) (d : List ℕ) → length d ≡ 591 → recordBytes p ++ drop 591 d ≡ recordBytes p
+record-whole p d n = ap (λ l. recordBytes p ++ l) (drop-of-length-le d {i = 591} (omega arith)) ∙ append-nil (recordBytes p)
+
+zero-refused : planRefusal zeroPlan ≡ 0 → ⊥
+unfolding planRefusal zeroPlan
+zero-refused z = omega arith
+
+-- a record that is accepted has its length
+pub accepted-long : (s : List ℕ) → planRefusal (recordOf s) ≡ 0 → length s ≡ 591
+accepted-long s e = go (eqb (length s) 591) refl
+  where
+    go : (b : Bool) → eqb (length s) 591 ≡ b → length s ≡ 591
+    go true f = eqb-true _ _ f
+    go false f = absurd (zero-refused (ap planRefusal (record-none s (eqb-false (length s) 591 f)) ∙ e))

@@ -13,7 +13,7 @@ use Rattle.plan.specs.Find.{hasReqid, rowAmong, findRow}
 use Rattle.plan.specs.Rules.{reqidBefore, rowAfter, rowRight, publishes}
 use Rattle.plan.proofs.Lookups.{has, has-not, among-none, among-found}
 use Rattle.plan.proofs.Rows.{reqid-next}
-use Rattle.reader.specs.Record.{recordRow, rowsIn, planIn}
+use Rattle.plan_bytes.specs.Record.{recordRow, rowsIn, planIn}
 use Rattle.plan_bytes.specs.RowsRefusal.{rowsRefusal}
 
 module _ (s : List ℕ) (j : ℕ) (h : j < 127) (row : Row) (is : row ≡ recordRow s j) where

@@ -1,1 +1,4 @@
+pub mod Entries
+pub mod Places
+pub mod Record
 pub mod RowsRefusal

@@ -1,4 +1,4 @@
-// The fields of a plan in the 591 bytes of its packed record.
+// The fields of a plan in the bytes of its packed record.
 ghost use mathlib.Core.Path.{_≡_};
 ghost use Prim.Native.Nat.{_≤_, _<_};
 ghost use lib.ListN.{length};
@@ -7,7 +7,14 @@ ghost use Rattle.plan.specs.Answers.{isPolled};
 ghost use Rattle.plan.specs.Find.{findRow};
 ghost use Rattle.plan.specs.Limits.{maxNodes, maxRows};
 ghost use Rattle.plan.specs.Record.{rowsUsed};
-ghost use Rattle.reader.specs.Record.{recordEntry, recordRow, planIn};
+ghost use Rattle.plan_bytes.specs.Places.{rowcountAt, recordLength};
+ghost use Rattle.plan_bytes.specs.Record.{recordEntry, recordRow, planIn};
+use crate::places::ENTRIES_AT;
+use crate::places::NODECOUNT_AT;
+use crate::places::REVISION_AT;
+use crate::places::ROWCOUNT_AT;
+use crate::places::ROWS_AT;
+use crate::places::TIMES_AT;
 use blocks::number_at;
 use plan::Lookup;
 use plan::NodeEntry;
@@ -16,10 +23,10 @@ use plan::Row;
 use plan::Times;
 
 pub(crate) fn entry_at(bytes: &[u8], k: u32) -> NodeEntry
-    requires { ⌜ (length (now bytes) ≡ 591) × (k < maxNodes) ⌝ }
+    requires { ⌜ (length (now bytes) ≡ recordLength) × (k < maxNodes) ⌝ }
     ensures { λ r. ⌜ r ≡ recordEntry (now (bytes .entry)) k ⌝ }
 {
-    let o = (19 + 4 * k) as usize;
+    let o = (ENTRIES_AT as u32 + 4 * k) as usize;
     NodeEntry {
         address: bytes[o],
         class: bytes[o + 1],
@@ -29,10 +36,10 @@ pub(crate) fn entry_at(bytes: &[u8], k: u32) -> NodeEntry
 }
 
 pub(crate) fn row_at(bytes: &[u8], j: u32) -> Row
-    requires { ⌜ (length (now bytes) ≡ 591) × (j < maxRows) ⌝ }
+    requires { ⌜ (length (now bytes) ≡ recordLength) × (j < maxRows) ⌝ }
     ensures { λ r. ⌜ r ≡ recordRow (now (bytes .entry)) j ⌝ }
 {
-    let o = (83 + 4 * j) as usize;
+    let o = (ROWS_AT as u32 + 4 * j) as usize;
     Row {
         reqid: bytes[o],
         publisher: bytes[o + 1],
@@ -42,28 +49,40 @@ pub(crate) fn row_at(bytes: &[u8], j: u32) -> Row
 }
 
 pub(crate) fn node_count_in(bytes: &[u8]) -> u8
-    requires { ⌜ length (now bytes) ≡ 591 ⌝ }
+    requires { ⌜ length (now bytes) ≡ recordLength ⌝ }
     ensures { λ r. ⌜ r ≡ planIn (now (bytes .entry)) .nodecount ⌝ }
 {
-    bytes[2]
+    bytes[NODECOUNT_AT]
+}
+
+pub(crate) fn revision_in(bytes: &[u8]) -> u16
+    ensures { λ r. ⌜ r ≡ planIn (now (bytes .entry)) .revision ⌝ }
+{
+    number_at(bytes, REVISION_AT)
+}
+
+pub(crate) fn row_count_in(bytes: &[u8]) -> u16
+    ensures { λ r. ⌜ r ≡ planIn (now (bytes .entry)) .rowcount ⌝ }
+{
+    number_at(bytes, ROWCOUNT_AT)
 }
 
 pub(crate) fn times_in(bytes: &[u8]) -> Times
     ensures { λ r. ⌜ r ≡ planIn (now (bytes .entry)) .times ⌝ }
 {
     Times {
-        window: number_at(bytes, 5),
-        stop: number_at(bytes, 7),
-        sleep: number_at(bytes, 9),
-        quiet: number_at(bytes, 11),
-        recovery: number_at(bytes, 13),
-        space: number_at(bytes, 15),
-        start: number_at(bytes, 17),
+        window: number_at(bytes, TIMES_AT),
+        stop: number_at(bytes, TIMES_AT + 2),
+        sleep: number_at(bytes, TIMES_AT + 4),
+        quiet: number_at(bytes, TIMES_AT + 6),
+        recovery: number_at(bytes, TIMES_AT + 8),
+        space: number_at(bytes, TIMES_AT + 10),
+        start: number_at(bytes, TIMES_AT + 12),
     }
 }
 
 pub(crate) fn polled_in(bytes: &[u8], node: u8) -> bool
-    requires { ⌜ length (now bytes) ≡ 591 ⌝ }
+    requires { ⌜ length (now bytes) ≡ recordLength ⌝ }
     ensures { λ r. ⌜ r ≡ isPolled (planIn (now (bytes .entry))) node ⌝ }
 {
     if (node as usize) < Plan::NODES {
@@ -74,9 +93,9 @@ pub(crate) fn polled_in(bytes: &[u8], node: u8) -> bool
 }
 
 fn rows_used(bytes: &[u8]) -> u32
-    ensures { λ r. ⌜ (r ≡ rowsUsed (number (now (bytes .entry)) 3)) × (r ≤ maxRows) ⌝ }
+    ensures { λ r. ⌜ (r ≡ rowsUsed (number (now (bytes .entry)) rowcountAt)) × (r ≤ maxRows) ⌝ }
 {
-    let count = number_at(bytes, 3);
+    let count = row_count_in(bytes);
     if (count as usize) < Plan::ROWS {
         count as u32
     } else {
@@ -86,7 +105,7 @@ fn rows_used(bytes: &[u8]) -> u32
 
 // The first row of a ReqId among the rows in use.
 pub(crate) fn row_in(bytes: &[u8], reqid: u8) -> Lookup
-    requires { ⌜ length (now bytes) ≡ 591 ⌝ }
+    requires { ⌜ length (now bytes) ≡ recordLength ⌝ }
     ensures { λ r. ⌜ r ≡ findRow (planIn (now (bytes .entry))) reqid ⌝ }
 {
     let count = rows_used(bytes);

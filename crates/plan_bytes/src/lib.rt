@@ -1,32 +1,72 @@
-// The plan in a packed record that is lent: judged, and read where an event needs it, without a record being made. Bytes of another
-// length are taken for the all-zero record.
+// The packed plan record: a plan as bytes and back, and the plan in a lent record judged and read where an event needs it, without a
+// record being made. Bytes of another length are taken for the all-zero record.
 ghost use mathlib.Core.Path.{_≡_};
 ghost use Rattle.plan.specs.Answers.{isPolled};
 ghost use Rattle.plan.specs.Find.{findRow};
 ghost use Rattle.plan.specs.Rules.{planRefusal};
-ghost use Rattle.reader.specs.Record.{recordOf};
+ghost use Rattle.plan_bytes.specs.Record.{recordOf};
 use plan::Lookup;
 use plan::Plan;
 use plan::Times;
 
 mod fields;
+mod packing;
+mod places;
 mod rules;
+mod unpacking;
+
+pub use packing::bytes_of;
+pub use packing::record_head;
+pub use places::ENTRIES_AT;
+pub use places::LENGTH;
+pub use places::ROWS_AT;
 
 // The number of the first of the rules 4 to 8 that the plan breaks, 0 where it keeps them.
 pub fn refusal_of(bytes: &[u8]) -> u8
     ensures { λ r. ⌜ r ≡ planRefusal (recordOf (now (bytes .entry))) ⌝ }
 {
-    if bytes.len() == Plan::LENGTH {
+    if bytes.len() == LENGTH {
         rules::refusal_in(bytes)
     } else {
         4
     }
 }
 
+// The plan, whether or not it keeps the rules.
+pub fn plan_of(bytes: &[u8]) -> Plan
+    ensures { λ r. ⌜ r ≡ recordOf (now (bytes .entry)) ⌝ }
+{
+    if bytes.len() == LENGTH {
+        unpacking::plan_in(bytes)
+    } else {
+        Plan::zero()
+    }
+}
+
+pub fn revision_of(bytes: &[u8]) -> u16
+    ensures { λ r. ⌜ r ≡ recordOf (now (bytes .entry)) .revision ⌝ }
+{
+    if bytes.len() == LENGTH {
+        fields::revision_in(bytes)
+    } else {
+        0
+    }
+}
+
+pub fn row_count(bytes: &[u8]) -> u16
+    ensures { λ r. ⌜ r ≡ recordOf (now (bytes .entry)) .rowcount ⌝ }
+{
+    if bytes.len() == LENGTH {
+        fields::row_count_in(bytes)
+    } else {
+        0
+    }
+}
+
 pub fn node_count(bytes: &[u8]) -> u8
     ensures { λ r. ⌜ r ≡ recordOf (now (bytes .entry)) .nodecount ⌝ }
 {
-    if bytes.len() == Plan::LENGTH {
+    if bytes.len() == LENGTH {
         fields::node_count_in(bytes)
     } else {
         0
@@ -36,7 +76,7 @@ pub fn node_count(bytes: &[u8]) -> u8
 pub fn times_of(bytes: &[u8]) -> Times
     ensures { λ r. ⌜ r ≡ recordOf (now (bytes .entry)) .times ⌝ }
 {
-    if bytes.len() == Plan::LENGTH {
+    if bytes.len() == LENGTH {
         fields::times_in(bytes)
     } else {
         Times::ZERO
@@ -47,7 +87,7 @@ pub fn times_of(bytes: &[u8]) -> Times
 pub fn is_polled(bytes: &[u8], node: u8) -> bool
     ensures { λ r. ⌜ r ≡ isPolled (recordOf (now (bytes .entry))) node ⌝ }
 {
-    if bytes.len() == Plan::LENGTH {
+    if bytes.len() == LENGTH {
         fields::polled_in(bytes, node)
     } else {
         false
@@ -58,7 +98,7 @@ pub fn is_polled(bytes: &[u8], node: u8) -> bool
 pub fn row_of(bytes: &[u8], reqid: u8) -> Lookup
     ensures { λ r. ⌜ r ≡ findRow (recordOf (now (bytes .entry))) reqid ⌝ }
 {
-    if bytes.len() == Plan::LENGTH {
+    if bytes.len() == LENGTH {
         fields::row_in(bytes, reqid)
     } else {
         Lookup::Missing

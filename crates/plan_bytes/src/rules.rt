@@ -1,14 +1,14 @@
-// The rules of a plan in the 591 bytes of its packed record: each entry and each row by the rule that judges a record's.
+// The rules of a plan in the bytes of its packed record: each entry and each row by the rule that judges a record's.
 ghost use mathlib.Core.Path.{_≡_};
 ghost use Prim.Native.Nat.{_≤_, _<_};
 ghost use lib.ListN.{length};
 ghost use Rattle.folds.specs.Fold.{allTo};
 ghost use Rattle.plan.specs.Limits.{maxNodes, maxRows};
 ghost use Rattle.plan.specs.Rules.{nodeRight, planRefusal};
-ghost use Rattle.reader.specs.Record.{nodesIn, rowsIn, planIn};
+ghost use Rattle.plan_bytes.specs.Places.{recordLength};
+ghost use Rattle.plan_bytes.specs.Record.{nodesIn, rowsIn, planIn};
 ghost use Rattle.plan_bytes.specs.RowsRefusal.{rowsRefusal};
 use crate::fields;
-use blocks::number_at;
 use plan::Plan;
 
 // A byte as an index of a table of 256.
@@ -19,7 +19,7 @@ fn place(k: u8) -> usize
 }
 
 fn each_node_right(bytes: &[u8], count: u32) -> bool
-    requires { ⌜ (length (now bytes) ≡ 591) × (count ≤ maxNodes) ⌝ }
+    requires { ⌜ (length (now bytes) ≡ recordLength) × (count ≤ maxNodes) ⌝ }
     ensures { λ r. ⌜ r ≡ allTo (nodeRight (nodesIn (now (bytes .entry)))) count ⌝ }
 {
     let mut taken = [false; 256];
@@ -41,7 +41,7 @@ fn each_node_right(bytes: &[u8], count: u32) -> bool
 
 // One pass with an exit: on a 32-bit controller a third fewer instructions than two passes, or than one without exit.
 fn rows_refusal(bytes: &[u8], nodecount: u8, count: u32) -> u8
-    requires { ⌜ (length (now bytes) ≡ 591) × (count ≤ maxRows) ⌝ }
+    requires { ⌜ (length (now bytes) ≡ recordLength) × (count ≤ maxRows) ⌝ }
     ensures { λ r. ⌜ r ≡ rowsRefusal (rowsIn (now (bytes .entry))) nodecount count ⌝ }
 {
     let mut seen = [false; 256];
@@ -68,10 +68,10 @@ fn rows_refusal(bytes: &[u8], nodecount: u8, count: u32) -> u8
 }
 
 pub(crate) fn refusal_in(bytes: &[u8]) -> u8
-    requires { ⌜ length (now bytes) ≡ 591 ⌝ }
+    requires { ⌜ length (now bytes) ≡ recordLength ⌝ }
     ensures { λ r. ⌜ r ≡ planRefusal (planIn (now (bytes .entry))) ⌝ }
 {
-    if number_at(bytes, 0) == 0 {
+    if fields::revision_in(bytes) == 0 {
         return 4;
     }
     let times = fields::times_in(bytes);
@@ -88,7 +88,7 @@ pub(crate) fn refusal_in(bytes: &[u8]) -> u8
     if !each_node_right(bytes, nodecount as u32) {
         return 6;
     }
-    let count = number_at(bytes, 3);
+    let count = fields::row_count_in(bytes);
     if count < 1 {
         return 7;
     }

@@ -1,37 +1,78 @@
--- The reader's answer by what its two judgements give.
-use Prim.Native.Nat.{ℕ}
-use mathlib.Core.Path.{_≡_, sym, _∙_}
+-- The reader's answer, and what it leaves in a buffer, by what its two judgements give.
+use Prim.Native.Nat.{ℕ, _≤_, _<_}
+use mathlib.Core.Path.{_≡_, refl, sym, _∙_}
 use mathlib.Core.List.{List}
-use mathlib.Core.Bool.{true}
+use mathlib.Core.Bool.{Bool, true, false}
+use lib.ListN.{length}
+use lib.Seq.{sets}
+use lib.Dec.{eqb}
 use native.Mathlib.Omega.{arith}
-use borrow.Author.Tests.{ne-eqb}
+use borrow.Author.Tests.{ne-eqb, lt-ltb, le-ltb}
+use Rattle.folds.specs.Fold.{pick}
 use Rattle.folds.specs.FirstBroken.{firstBroken}
+use Rattle.folds.proofs.Choices.{by-test}
 use Rattle.folds.proofs.Rules.{front-number, rest-number, none-only}
-use Rattle.plan.specs.declared.Plan.{Plan}
-use Rattle.reader.specs.Layout.{planOf}
+use Rattle.folds.proofs.Tables.{length-tab}
+use Rattle.blocks.specs.Bytes.{byte}
+use Rattle.plan.specs.Record.{zeroPlan}
+use Rattle.plan_bytes.specs.Record.{recordOf, recordBytes, recordWritten}
+use Rattle.plan_bytes.proofs.Records.{record-front, record-whole}
+use Rattle.plan_bytes.proofs.RecordTrip.{record-back}
+use Rattle.reader.specs.declared.ReadAnswer.{ReadAnswer}
+use Rattle.reader.specs.Layout.{nodeOf, nodesOf, rowcountOf, rowOf, rowsOf, planOf}
 use Rattle.reader.specs.Rules.{lengthRight, shapeRules, contentRules}
-use Rattle.reader.specs.Read.{setRefusal, refused, readSet}
+use Rattle.reader.specs.Read.{setRefusal, readSet, recordRefusal}
 
 module _ (s : List ℕ) where
   pub length-kept : firstBroken 1 (shapeRules s) ≡ 0 → lengthRight s ≡ true
   length-kept e = none-only 1 (shapeRules s) (omega arith) e 0
 
-  refused-by : (k : ℕ) → setRefusal s ≡ k → (k ≡ 0 → ⊥) → readSet s ≡ refused k
-  unfolding readSet
-  refused-by k e n = rw (e, ne-eqb k 0 n)
-
-  pub wrong-shape : (k : ℕ) → k ≡ firstBroken 1 (shapeRules s) → (k ≡ 0 → ⊥) → readSet s ≡ refused k
+  pub by-shape : (k : ℕ) → k ≡ firstBroken 1 (shapeRules s) → (k ≡ 0 → ⊥) → setRefusal s ≡ k
   unfolding setRefusal
-  wrong-shape k e n = refused-by k (front-number 1 (shapeRules s) (contentRules s (planOf s)) (λ z. n (e ∙ z)) ∙ sym e) n
+  by-shape k e n = front-number 1 (shapeRules s) (contentRules s (planOf s)) (λ z. n (e ∙ z)) ∙ sym e
 
-  module _ (p : Plan) (is : p ≡ planOf s) (shape : firstBroken 1 (shapeRules s) ≡ 0) (k : ℕ) (content : k ≡ firstBroken 4 (contentRules s p)) where
-    by-content : setRefusal s ≡ k
-    unfolding setRefusal
-    by-content = rest-number 1 (shapeRules s) (contentRules s (planOf s)) (omega arith) shape ∙ sym (rw is at content)
+  pub by-content : firstBroken 1 (shapeRules s) ≡ 0 → (k : ℕ) → k ≡ firstBroken 4 (contentRules s (planOf s)) → setRefusal s ≡ k
+  unfolding setRefusal
+  by-content shape k e = rest-number 1 (shapeRules s) (contentRules s (planOf s)) (omega arith) shape ∙ sym e
 
-    pub wrong-content : (k ≡ 0 → ⊥) → readSet s ≡ refused k
-    wrong-content n = refused-by k by-content n
-
-    pub accepted : k ≡ 0 → readSet s ≡ record { refusal = 0; plan = p }
+  module _ (buffer after : List ℕ) where
+    pub read-refused : (k : ℕ) → setRefusal s ≡ k → (k ≡ 0 → ⊥) → after ≡ recordWritten zeroPlan buffer
+        → (k ≡ recordRefusal s (length buffer)) × (after ≡ recordWritten (readSet s .plan) buffer)
     unfolding readSet
-    accepted z = rw (by-content, z, is)
+    read-refused k e n f = rw (e, ne-eqb k 0 n) (refl, f)
+
+    module _ (none : setRefusal s ≡ 0) where
+      pub read-short : length buffer < 591 → (10 ≡ recordRefusal s (length buffer)) × (buffer ≡ recordWritten (readSet s .plan) buffer)
+      read-short h = rw (none, lt-ltb (length buffer) 591 h) (refl, refl)
+
+      pub read-done : (bytes : List ℕ) → 591 ≤ length buffer → bytes ≡ recordBytes (planOf s) → after ≡ sets buffer 0 bytes
+          → (0 ≡ recordRefusal s (length buffer)) × (after ≡ recordWritten (readSet s .plan) buffer)
+      unfolding readSet
+      read-done bytes h e f =
+          rw (none, le-ltb (length buffer) 591 h) (refl, record-front (planOf s) buffer after (rw e at f) h)
+
+  -- the packed record of a set gives the set's plan
+  pub record-of-set : recordOf (recordBytes (planOf s)) ≡ planOf s
+  unfolding planOf nodesOf rowsOf
+  record-of-set = record-back (planOf s) (length-tab 16 (nodeOf s (byte s 4))) (length-tab 127 (rowOf s (rowcountOf s)))
+
+  -- the record of a buffer that has its length
+  nodes-long : length (readSet s .plan .nodes) ≡ 16
+  unfolding readSet planOf nodesOf zeroPlan
+  nodes-long = by-test (λ (a : ReadAnswer). length (a .plan .nodes) ≡ 16) (eqb (setRefusal s) 0) (λ _. length-tab 16 (nodeOf s (byte s 4))) (λ _. refl)
+
+  rows-long : length (readSet s .plan .rows) ≡ 127
+  unfolding readSet planOf rowsOf zeroPlan
+  rows-long = by-test (λ (a : ReadAnswer). length (a .plan .rows) ≡ 127) (eqb (setRefusal s) 0) (λ _. length-tab 127 (rowOf s (rowcountOf s))) (λ _. refl)
+
+  pub read-back : (d : List ℕ) → length d ≡ 591 → recordOf (recordWritten (readSet s .plan) d) ≡ readSet s .plan
+  read-back d n =
+      rw (le-ltb (length d) 591 (omega arith), record-whole (readSet s .plan) d n) (record-back (readSet s .plan) nodes-long rows-long)
+
+  pub read-number : (room : ℕ) → 591 ≤ room → recordRefusal s room ≡ readSet s .refusal
+  unfolding readSet
+  read-number room h = rw (le-ltb room 591 h) (go (eqb (setRefusal s) 0) refl)
+    where
+      go : (b : Bool) → eqb (setRefusal s) 0 ≡ b → pick (eqb (setRefusal s) 0) 0 (setRefusal s) ≡ readSet s .refusal
+      go true e = rw e
+      go false e = rw e

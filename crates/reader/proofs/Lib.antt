@@ -3,3 +3,4 @@ pub mod Answers
 pub mod Content
 pub mod Filler
 pub mod Refusals
+pub mod SetRecord

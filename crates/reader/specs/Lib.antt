@@ -1,4 +1,3 @@
 pub mod Layout
 pub mod Read
-pub mod Record
 pub mod Rules

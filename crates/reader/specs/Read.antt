@@ -2,10 +2,11 @@
 use Prim.Native.Nat.{ℕ}
 use mathlib.Core.List.{List, _++_}
 use mathlib.Core.Bool.{Bool}
-use lib.Dec.{eqb}
+use lib.Dec.{eqb, ltb}
 use Rattle.folds.specs.Fold.{pick}
 use Rattle.folds.specs.FirstBroken.{firstBroken}
 use Rattle.plan.specs.Record.{zeroPlan}
+use Rattle.plan_bytes.specs.Places.{recordLength}
 use Rattle.reader.specs.declared.ReadAnswer.{ReadAnswer}
 use Rattle.reader.specs.Layout.{planOf}
 use Rattle.reader.specs.Rules.{shapeRules, contentRules}
@@ -24,3 +25,7 @@ refused number = record { refusal = number; plan = zeroPlan }
 
 unfoldable pub readSet : List ℕ → ReadAnswer
 readSet s = pick (eqb (setRefusal s) 0) (record { refusal = 0; plan = planOf s }) (refused (setRefusal s))
+
+-- reading into a buffer of so many bytes: 1 to 9, then 10 where it is too short for the packed record
+abbrev pub recordRefusal : List ℕ → ℕ → ℕ
+recordRefusal s room = pick (eqb (setRefusal s) 0) (pick (ltb room recordLength) 10 0) (setRefusal s)

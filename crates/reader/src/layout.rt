@@ -1,63 +1,38 @@
-// The plan record of bytes, whether or not they keep the rules: of a set's, and of a packed record's.
+// The packed plan record of a set's bytes, whether or not they keep the rules.
 ghost use mathlib.Core.Path.{_≡_};
-ghost use Prim.Native.Nat.{_<_};
+ghost use mathlib.Core.Bool.{true};
+ghost use mathlib.Core.List.{_++_};
+ghost use Prim.Native.Nat.{_*_, _≤_, min};
+ghost use lib.ListN.{length, drop};
+ghost use Rattle.blocks.specs.Bytes.{byte, number};
+ghost use Rattle.blocks.specs.Puts.{Put};
 ghost use Rattle.plan.specs.Limits.{maxNodes, maxRows};
-ghost use Rattle.reader.specs.Layout.{timesFrom, entryFrom, nodeOf, nodesOf, rowcountOf, rowPlace, rowFrom, rowOf, rowsOf, planOf};
+ghost use Rattle.plan_bytes.specs.Entries.{timesFrom, entryByteAt, rowByteFrom};
+ghost use Rattle.plan_bytes.specs.Places.{entriesAt, rowsAt, recordLength};
+ghost use Rattle.plan_bytes.specs.Record.{recordHead, recordBytes};
+ghost use Rattle.reader.specs.Layout.{nodesOf, rowcountOf, rowsOf, planOf};
+ghost use Rattle.reader.specs.Rules.{lengthRight};
 use blocks::byte_at;
 use blocks::number_at;
-use plan::NodeEntry;
+use blocks::put;
+use blocks::put_zeros;
 use plan::Plan;
-use plan::Row;
 use plan::Times;
+use plan_bytes::ENTRIES_AT;
+use plan_bytes::ROWS_AT;
 
-pub(crate) fn times_from(s: &[u8], o: usize) -> Times
-    requires { ⌜ o < 4096 ⌝ }
-    ensures { λ r. ⌜ r ≡ timesFrom (now (s .entry)) o ⌝ }
+fn times_of(s: &[u8]) -> Times
+    ensures { λ r. ⌜ r ≡ timesFrom (now (s .entry)) 6 ⌝ }
 {
     Times {
-        window: number_at(s, o),
-        stop: number_at(s, o + 2),
-        sleep: number_at(s, o + 4),
-        quiet: number_at(s, o + 6),
-        recovery: number_at(s, o + 8),
-        space: number_at(s, o + 10),
-        start: number_at(s, o + 12),
+        window: number_at(s, 6),
+        stop: number_at(s, 8),
+        sleep: number_at(s, 10),
+        quiet: number_at(s, 12),
+        recovery: number_at(s, 14),
+        space: number_at(s, 16),
+        start: number_at(s, 18),
     }
-}
-
-fn entry_from(s: &[u8], o: usize) -> NodeEntry
-    requires { ⌜ o < 4096 ⌝ }
-    ensures { λ r. ⌜ r ≡ entryFrom (now (s .entry)) o ⌝ }
-{
-    NodeEntry {
-        address: byte_at(s, o),
-        class: byte_at(s, o + 1),
-        method: byte_at(s, o + 2),
-        reserved: byte_at(s, o + 3),
-    }
-}
-
-fn node_of(s: &[u8], count: usize, k: usize) -> NodeEntry
-    requires { ⌜ k < maxNodes ⌝ }
-    ensures { λ r. ⌜ r ≡ nodeOf (now (s .entry)) count k ⌝ }
-{
-    if k < count {
-        entry_from(s, 32 + 4 * k)
-    } else {
-        NodeEntry::ZERO
-    }
-}
-
-fn nodes_of(s: &[u8], count: usize) -> [NodeEntry; Plan::NODES]
-    ensures { λ r. ⌜ r ≡ nodesOf (now (s .entry)) count ⌝ }
-{
-    let mut nodes = [NodeEntry::ZERO; Plan::NODES];
-    let mut k: usize = 0;
-    while k < Plan::NODES {
-        nodes[k] = node_of(s, count, k);
-        k += 1;
-    }
-    nodes
 }
 
 fn rowcount_of(s: &[u8]) -> u16
@@ -70,75 +45,53 @@ fn rowcount_of(s: &[u8]) -> u16
     }
 }
 
-fn row_place(j: usize) -> usize
-    requires { ⌜ j < maxRows ⌝ }
-    ensures { λ r. ⌜ (r ≡ rowPlace j) × (r < 4096) ⌝ }
+fn head_of(s: &[u8]) -> [u8; ENTRIES_AT]
+    ensures { λ r. ⌜ r ≡ recordHead (number (now (s .entry)) 2) (byte (now (s .entry)) 4) (rowcountOf (now (s .entry))) (timesFrom (now (s .entry)) 6) ⌝ }
 {
-    if j < Plan::BLOCK_ROWS as usize {
-        520 + 4 * j
-    } else {
-        632 + 4 * j
-    }
+    plan_bytes::record_head(
+        number_at(s, 2),
+        byte_at(s, 4),
+        rowcount_of(s),
+        times_of(s),
+    )
 }
 
-// One test for four bytes, since this is done for each row.
-fn row_from(s: &[u8], o: usize) -> Row
-    requires { ⌜ o < 4096 ⌝ }
-    ensures { λ r. ⌜ r ≡ rowFrom (now (s .entry)) o ⌝ }
+fn least(a: usize, b: usize) -> usize
+    ensures { λ r. ⌜ r ≡ min a b ⌝ }
 {
-    if o + 3 < s.len() {
-        return Row {
-            reqid: s[o],
-            publisher: s[o + 1],
-            length: s[o + 2],
-            kind: s[o + 3],
-        };
-    }
-    Row {
-        reqid: byte_at(s, o),
-        publisher: byte_at(s, o + 1),
-        length: byte_at(s, o + 2),
-        kind: byte_at(s, o + 3),
-    }
+    if a < b { a } else { b }
 }
 
-fn row_of(s: &[u8], count: usize, j: usize) -> Row
-    requires { ⌜ j < maxRows ⌝ }
-    ensures { λ r. ⌜ r ≡ rowOf (now (s .entry)) count j ⌝ }
+fn put_entries(s: &[u8], buffer: &mut [u8])
+    requires { ⌜ (lengthRight (now s) ≡ true) × (recordLength ≤ length (now buffer)) ⌝ }
+    ensures { λ _. ⌜ Put entriesAt (4 * maxNodes) (entryByteAt (nodesOf (now (s .entry)) (byte (now (s .entry)) 4))) (now (buffer .entry)) (now (buffer .exit)) ⌝ }
 {
-    if j < count {
-        row_from(s, row_place(j))
-    } else {
-        Row::ZERO
-    }
+    let end = 4 * least(byte_at(s, 4) as usize, Plan::NODES);
+    put(buffer, ENTRIES_AT, &s[32..32 + end]);
+    put_zeros(buffer, ENTRIES_AT + end, 4 * Plan::NODES - end);
 }
 
-fn rows_of(s: &[u8], count: usize) -> [Row; Plan::ROWS]
-    ensures { λ r. ⌜ r ≡ rowsOf (now (s .entry)) count ⌝ }
+fn put_rows(s: &[u8], count: usize, buffer: &mut [u8])
+    requires { ⌜ (lengthRight (now s) ≡ true) × (count ≡ rowcountOf (now s)) × (recordLength ≤ length (now buffer)) ⌝ }
+    ensures { λ _. ⌜ Put rowsAt (4 * maxRows) (rowByteFrom (rowsOf (now (s .entry)) count) 0) (now (buffer .entry)) (now (buffer .exit)) ⌝ }
 {
-    let mut rows = [Row::ZERO; Plan::ROWS];
-    let mut j: usize = 0;
-    while j < Plan::ROWS {
-        rows[j] = row_of(s, count, j);
-        j += 1;
+    let first = 4 * least(count, Plan::BLOCK_ROWS as usize);
+    put(buffer, ROWS_AT, &s[520..520 + first]);
+    if s.len() == 1024 {
+        put_zeros(buffer, ROWS_AT + first, 4 * Plan::ROWS - first);
+        return;
     }
-    rows
+    let end = 4 * least(count, Plan::ROWS);
+    put(buffer, ROWS_AT + first, &s[1032..1032 + (end - first)]);
+    put_zeros(buffer, ROWS_AT + end, 4 * Plan::ROWS - end);
 }
 
-pub(crate) fn plan_of(s: &[u8]) -> Plan
-    ensures { λ r. ⌜ r ≡ planOf (now (s .entry)) ⌝ }
+pub(crate) fn put_record(s: &[u8], buffer: &mut [u8])
+    requires { ⌜ (lengthRight (now s) ≡ true) × (recordLength ≤ length (now buffer)) ⌝ }
+    ensures { λ _. ⌜ now (buffer .exit) ≡ recordBytes (planOf (now (s .entry))) ++ drop recordLength (now (buffer .entry)) ⌝ }
 {
-    let nodecount = byte_at(s, 4);
-    let rowcount = rowcount_of(s);
-    let times = times_from(s, 6);
-    let nodes = nodes_of(s, nodecount as usize);
-    let rows = rows_of(s, rowcount as usize);
-    Plan {
-        revision: number_at(s, 2),
-        nodecount,
-        times,
-        nodes,
-        rowcount,
-        rows,
-    }
+    let head = head_of(s);
+    put(buffer, 0, &head[..]);
+    put_entries(s, buffer);
+    put_rows(s, rowcount_of(s) as usize, buffer);
 }

@@ -1,42 +1,63 @@
 // The reader of release sets.
 ghost use mathlib.Core.Path.{_≡_};
-ghost use Rattle.reader.specs.Read.{readSet, refused};
+ghost use lib.ListN.{length};
+ghost use Rattle.plan.specs.Record.{zeroPlan};
+ghost use Rattle.plan_bytes.specs.Record.{recordWritten};
+ghost use Rattle.reader.specs.Read.{readSet, recordRefusal};
+use blocks::put;
+use blocks::put_zeros;
 use plan::Plan;
 
 mod layout;
-mod record;
 mod rules;
-
-pub use record::record_of;
 
 pub struct ReadAnswer {
     pub refusal: u8,
     pub plan: Plan,
 }
 
-fn refuse(number: u8) -> ReadAnswer
-    ensures { λ r. ⌜ r ≡ refused number ⌝ }
+// The all-zero record, where the buffer has room for one.
+fn clear(buffer: &mut [u8])
+    ensures { λ _. ⌜ now (buffer .exit) ≡ recordWritten zeroPlan (now (buffer .entry)) ⌝ }
 {
-    let zero = Plan::zero();
-    ReadAnswer {
-        refusal: number,
-        plan: zero,
+    if buffer.len() < plan_bytes::LENGTH {
+        return;
     }
+    put_zeros(buffer, 0, plan_bytes::LENGTH);
+}
+
+// Reads a set into a packed plan record at the front of a buffer; answers 0, or the number of the first rule that the bytes break with
+// the all-zero record, or 10 for a buffer that is too short, which stays.
+// The record is made once the bytes have the shape of a set, since a wrong length or check is the common refusal.
+pub fn read_record(set: &[u8], buffer: &mut [u8]) -> u8
+    ensures { λ r. ⌜ (r ≡ recordRefusal (now (set .entry)) (length (now (buffer .entry))))
+        × (now (buffer .exit) ≡ recordWritten (readSet (now (set .entry)) .plan) (now (buffer .entry))) ⌝ }
+{
+    let shape = rules::shape_refusal(set);
+    if shape != 0 {
+        clear(buffer);
+        return shape;
+    }
+    let mut record = [0; plan_bytes::LENGTH];
+    layout::put_record(set, &mut record[..]);
+    let content = rules::content_refusal(set, plan_bytes::refusal_of(&record[..]));
+    if content != 0 {
+        clear(buffer);
+        return content;
+    }
+    if buffer.len() < plan_bytes::LENGTH {
+        return 10;
+    }
+    put(buffer, 0, &record[..]);
+    0
 }
 
 // The record of a set, or the number of the first rule that the bytes break with the all-zero record.
-// The record is made once the bytes have the shape of a set, since a wrong length or check is the common refusal.
-pub fn read(bytes: &[u8]) -> ReadAnswer
-    ensures { λ r. ⌜ r ≡ readSet (now (bytes .entry)) ⌝ }
+pub fn read(set: &[u8]) -> ReadAnswer
+    ensures { λ r. ⌜ r ≡ readSet (now (set .entry)) ⌝ }
 {
-    let shape = rules::shape_refusal(bytes);
-    if shape != 0 {
-        return refuse(shape);
-    }
-    let plan = layout::plan_of(bytes);
-    let content = rules::content_refusal(bytes, plan);
-    if content != 0 {
-        return refuse(content);
-    }
-    ReadAnswer { refusal: 0, plan }
+    let mut record = [0; plan_bytes::LENGTH];
+    let refusal = read_record(set, &mut record[..]);
+    let plan = plan_bytes::plan_of(&record[..]);
+    ReadAnswer { refusal, plan }
 }

@@ -4,8 +4,9 @@ ghost use mathlib.Core.Bool.{true};
 ghost use Prim.Native.Nat.{_≤_, _<_};
 ghost use Rattle.folds.specs.Fold.{allTo, pick};
 ghost use Rattle.folds.specs.FirstBroken.{firstBroken};
-ghost use Rattle.plan.specs.Rules.{inRange};
+ghost use Rattle.plan.specs.Rules.{inRange, planRefusal};
 ghost use Rattle.blocks.specs.Limits.{blockLength};
+ghost use Rattle.reader.specs.Layout.{planOf};
 ghost use Rattle.reader.specs.Rules.{lengthRight, checkRight, checksRight, blockType, typeRight, typesRight, revisionSame, revisionsSame, countsRight, fillerAt, messageFillerAt, fillerRight, FillerStart, shapeRules, contentRules};
 use blocks::BLOCK_LENGTH;
 use blocks::are_zero;
@@ -13,7 +14,6 @@ use blocks::block_check;
 use blocks::byte_at;
 use blocks::number_at;
 use plan::Plan;
-use plan::plan_refusal;
 
 fn length_right(s: &[u8]) -> bool
     ensures { λ r. ⌜ r ≡ lengthRight (now (s .entry)) ⌝ }
@@ -153,15 +153,14 @@ fn with_wrong_count(refusal: u8) -> u8
     }
 }
 
-// Rules 4 to 9, of the bytes and their record.
-pub(crate) fn content_refusal(s: &[u8], p: Plan) -> u8
-    requires { ⌜ lengthRight (now s) ≡ true ⌝ }
-    ensures { λ r. ⌜ r ≡ firstBroken 4 (contentRules (now (s .entry)) p) ⌝ }
+// Rules 4 to 9, of the bytes and their record, of which the refusal by the plan's rules is known.
+pub(crate) fn content_refusal(s: &[u8], refusal: u8) -> u8
+    requires { ⌜ (lengthRight (now s) ≡ true) × (refusal ≡ planRefusal (planOf (now s))) ⌝ }
+    ensures { λ r. ⌜ r ≡ firstBroken 4 (contentRules (now (s .entry)) (planOf (now (s .entry)))) ⌝ }
 {
     if !revisions_same(s) {
         return 4;
     }
-    let refusal = plan_refusal(p);
     if !counts_right(s) {
         return with_wrong_count(refusal);
     }

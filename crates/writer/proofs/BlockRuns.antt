@@ -1,17 +1,20 @@
 -- The blocks of a set, put run by run.
 use Prim.Native.Nat.{ℕ, _+_, _*_, _-_, _/_, _%_, _≤_}
-use mathlib.Core.Path.{_≡_, refl, ap, _∙_}
+use mathlib.Core.Path.{_≡_, refl, ap, sym, _∙_}
 use mathlib.Core.List.{List, _++_}
-use lib.ListN.{length, drop, replicate}
-use lib.Seq.{sets}
+use lib.ListN.{length, take, drop, replicate}
+use lib.Seq.{sets, length-sets}
 use native.Mathlib.Omega.{arith}
 use borrow.Author.Tests.{lt-ltb, le-ltb}
 use Rattle.folds.specs.Fold.{tab}
 use Rattle.blocks.specs.Bytes.{byte}
 use Rattle.plan.specs.declared.Plan.{Plan}
 use Rattle.writer.specs.Write.{planHead, planByte, rowsIn, messageHead, messageByte, dataByte}
-use Rattle.writer.specs.Runs.{Put, entryByteAt, rowByteFrom}
-use Rattle.writer.proofs.Runs.{put-as, put-next, put-whole, put-list, put-zero-run}
+use Rattle.blocks.specs.Puts.{Put}
+use Rattle.plan_bytes.specs.Entries.{entryByteAt, rowByteFrom}
+use Rattle.plan_bytes.specs.Record.{recordOf}
+use Rattle.plan_bytes.proofs.RecordTrip.{entry-in, row-in}
+use Rattle.blocks.proofs.Puts.{put-as, put-next, put-whole, put-list, put-zero-run, put-slice}
 
 module _ (p : Plan) where
   pub plan-put : (d x y z head : List ℕ) → p .nodecount ≤ 16 → 512 ≤ length d → head ≡ planHead p → x ≡ sets d 0 head
@@ -64,3 +67,28 @@ module _ (p : Plan) where
       → z ≡ tab 1536 (dataByte p) ++ drop 1536 d
   long-put d x y z h j k l =
       put-whole 1536 (dataByte p) d z (block-put 2 1024 1536 d y z (omega arith) refl refl (block-put 1 512 1024 d x y (omega arith) refl refl h j) k) l
+
+-- the same from the bytes of a packed record
+module _ (s : List ℕ) (size : length s ≡ 591) where
+  pub plan-put-from : (n : ℕ) (d x y z head : List ℕ) → n ≡ recordOf s .nodecount → n ≤ 16 → 512 ≤ length d → head ≡ planHead (recordOf s) → x ≡ sets d 0 head
+      → y ≡ sets x 32 (take (19 + 4 * n - 19) (drop 19 s)) → z ≡ sets y (32 + 4 * n) (replicate (480 - 4 * n) 0) → Put 0 512 (dataByte (recordOf s)) d z
+  plan-put-from n d x y z head is few long e h1 h2 h3 =
+      let same : 19 + 4 * n - 19 ≡ 4 * n = omega arith in
+      let l : length x ≡ length d = ap length h1 ∙ length-sets d 0 head in
+      let a : Put 32 (4 * n) (entryByteAt (recordOf s .nodes)) x y = put-as 32 (4 * n) (λ i. byte s (19 + i)) (entryByteAt (recordOf s .nodes)) x y
+          (put-slice 32 19 (4 * n) s x y (rw same at h2) (omega arith) (omega arith)) (λ i q. sym (entry-in s size i (omega arith))) in
+      plan-put (recordOf s) d x y z head (omega arith) long e h1 (rw is at a) (rw is at h3)
+
+  pub message-put-from : (b n : ℕ) (d x y z head : List ℕ) → 1 ≤ b → n ≡ rowsIn (recordOf s .rowcount) b → n ≤ 100 → 100 * (b - 1) + n ≤ 127 → 512 * b + 512 ≤ length d
+      → head ≡ messageHead (recordOf s .revision) (rowsIn (recordOf s .rowcount) b) → x ≡ sets d (512 * b) head
+      → y ≡ sets x (512 * b + 8) (take (83 + 400 * (b - 1) + 4 * n - (83 + 400 * (b - 1))) (drop (83 + 400 * (b - 1)) s)) → z ≡ sets y (512 * b + 8 + 4 * n) (replicate (504 - 4 * n) 0)
+      → Put (512 * b) 512 (messageByte (recordOf s) b) d z
+  message-put-from b n d x y z head some is few within long e h1 h2 h3 =
+      let first = 83 + 400 * (b - 1) in
+      let same : first + 4 * n - first ≡ 4 * n = omega arith in
+      let l : length x ≡ length d = ap length h1 ∙ length-sets d (512 * b) head in
+      let a : Put (512 * b + 8) (4 * n) (rowByteFrom (recordOf s .rows) (100 * (b - 1))) x y =
+          put-as (512 * b + 8) (4 * n) (λ i. byte s (first + i)) (rowByteFrom (recordOf s .rows) (100 * (b - 1))) x y
+          (put-slice (512 * b + 8) first (4 * n) s x y (rw same at h2) (omega arith) (omega arith))
+          (λ i q. let t : 83 + 4 * (100 * (b - 1)) + i ≡ first + i = omega arith in sym (row-in s size (100 * (b - 1)) i (omega arith) ∙ ap (byte s) t)) in
+      message-put (recordOf s) b n d x y z head is few long e h1 a h3

@@ -1,14 +1,10 @@
 pub mod BlockRuns
 pub mod Checks
-pub mod Fours
 pub mod Kept
 pub mod Lengths
 pub mod ReadBack
-pub mod RecordRuns
-pub mod RecordTrip
 pub mod Refusals
 pub mod RoundTrip
-pub mod Runs
 pub mod SetBytes
 pub mod Unused
 pub mod WriteBack

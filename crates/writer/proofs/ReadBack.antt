@@ -12,8 +12,10 @@ use Rattle.blocks.specs.Bytes.{byte, number}
 use Rattle.blocks.proofs.Halves.{from-halves}
 use Rattle.plan.specs.declared.Plan.{Plan}
 use Rattle.plan.specs.Record.{entryAt, rowAt, usedEntry, usedRow, unusedZero}
-use Rattle.reader.specs.Layout.{timesFrom, entryFrom, nodeOf, nodesOf, rowcountOf, rowPlace, rowFrom, rowOf, rowsOf, planOf}
-use Rattle.writer.specs.Write.{planHead, rowsIn, messageHead, entryBytes, rowBytes, writeSet}
+use Rattle.plan_bytes.specs.Entries.{timesFrom, entryFrom, rowFrom}
+use Rattle.reader.specs.Layout.{nodeOf, nodesOf, rowcountOf, rowPlace, rowOf, rowsOf, planOf}
+use Rattle.plan_bytes.specs.Entries.{entryBytes, rowBytes}
+use Rattle.writer.specs.Write.{planHead, rowsIn, messageHead, writeSet}
 use Rattle.writer.proofs.Lengths.{blockCount, length-short, length-long}
 use Rattle.writer.proofs.SetBytes.{set-long, head-byte, node-byte, message-head, message-row}
 

@@ -13,7 +13,8 @@ use Rattle.blocks.specs.Bytes.{number}
 use Rattle.blocks.specs.Check.{blockCheck}
 use Rattle.plan.specs.declared.Plan.{Plan}
 use Rattle.plan.specs.Record.{entryAt, rowAt}
-use Rattle.writer.specs.Write.{planHead, entryBytes, rowBytes, planByte, rowsIn, messageHead, messageByte, dataByte, setLength, withChecks, writeSet}
+use Rattle.plan_bytes.specs.Entries.{entryBytes, rowBytes}
+use Rattle.writer.specs.Write.{planHead, planByte, rowsIn, messageHead, messageByte, dataByte, setLength, withChecks, writeSet}
 use Rattle.writer.proofs.Lengths.{blockCount, length-least, length-blocks}
 use Rattle.writer.proofs.Checks.{firstChecks, length-checks, checks-append, checks-data, checks-stored, check-kept-all}
 

@@ -17,7 +17,8 @@ use Rattle.plan.specs.Record.{unusedZero}
 use Rattle.plan.specs.Rules.{planRefusal}
 use Rattle.plan.proofs.Accepted.{accepted, nodes-few, rows-few}
 use Rattle.plan.proofs.Unused.{entry-same, row-same, unused-refusal}
-use Rattle.writer.specs.Write.{planHead, entryBytes, planByte, rowsIn, rowBytes, messageByte, dataByte, setLength, withChecks, writeSet, writeRefusal, written}
+use Rattle.plan_bytes.specs.Entries.{entryBytes, rowBytes}
+use Rattle.writer.specs.Write.{planHead, planByte, rowsIn, messageByte, dataByte, setLength, withChecks, writeSet, writeRefusal, written}
 use Rattle.writer.proofs.Lengths.{length-least}
 use Rattle.writer.proofs.Refusals.{room}
 

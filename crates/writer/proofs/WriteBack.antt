@@ -20,13 +20,15 @@ use Rattle.plan.specs.declared.Row.{Row}
 use Rattle.plan.specs.Record.{zeroEntry, zeroRow, entryAt, rowAt}
 use Rattle.plan.specs.Rules.{inRange}
 use Rattle.plan.proofs.Accepted.{Accepted, accepted, nodes-few, rows-few}
-use Rattle.reader.specs.Layout.{oneMessageBlock, timesFrom, nodeOf, nodesOf, rowcountOf, rowPlace, rowOf, rowsOf, planOf}
+use Rattle.plan_bytes.specs.Entries.{timesFrom}
+use Rattle.reader.specs.Layout.{oneMessageBlock, nodeOf, nodesOf, rowcountOf, rowPlace, rowOf, rowsOf, planOf}
 use Rattle.reader.specs.Rules.{eachBlock, lengthRight, checkRight, checksRight, blockType, typeRight, typesRight, revisionSame, revisionsSame, countsRight, messageNamed, named, fillerAt, fillerRight}
 use Rattle.reader.proofs.Accepted.{AcceptedSet}
-use Rattle.writer.specs.Write.{planHead, entryBytes, rowBytes, planByte, rowsIn, messageHead, messageByte, dataByte, setLength, writeSet}
+use Rattle.plan_bytes.specs.Entries.{entryBytes, rowBytes}
+use Rattle.writer.specs.Write.{planHead, planByte, rowsIn, messageHead, messageByte, dataByte, setLength, writeSet}
 use Rattle.writer.proofs.Lengths.{blockCount, length-blocks}
 use Rattle.writer.proofs.Checks.{check-ext}
-use Rattle.writer.proofs.Fours.{entry-byte, row-byte}
+use Rattle.plan_bytes.proofs.Fours.{entry-byte, row-byte}
 use Rattle.writer.proofs.SetBytes.{set-long, set-data, set-check, set-low}
 
 filler-at : (s : List ℕ) → fillerRight s ≡ true → (o : ℕ) → o < length s → (named s o || eqb (byte s o) 0) ≡ true

@@ -7,22 +7,17 @@ use Rattle.folds.specs.Fold.{pick, tab}
 use Rattle.blocks.specs.Bytes.{highByte, lowByte, twoBytes}
 use Rattle.blocks.specs.Check.{blockCheck}
 use Rattle.blocks.specs.Limits.{blockLength}
-use Rattle.plan.specs.declared.NodeEntry.{NodeEntry}
-use Rattle.plan.specs.declared.Row.{Row}
 use Rattle.plan.specs.declared.Plan.{Plan}
 use Rattle.plan.specs.Limits.{blockRows}
 use Rattle.plan.specs.Record.{entryAt, rowAt}
 use Rattle.plan.specs.Rules.{planRefusal}
+use Rattle.plan_bytes.specs.Entries.{timesBytes, entryBytes, rowBytes}
 use Rattle.writer.specs.declared.WriteAnswer.{WriteAnswer}
 
 -- the first 32 bytes of the plan block: "0 = 50 hex; 1 = 1; 2-3 revision ..; 4 = N ..; 6-19 seven times"
 unfoldable pub planHead : Plan → List ℕ
 planHead p =
-    0x50 ∷ 1 ∷ twoBytes (p .revision) ++ p .nodecount ∷ 0 ∷ twoBytes (p .times .window) ++ twoBytes (p .times .stop) ++ twoBytes (p .times .sleep)
-    ++ twoBytes (p .times .quiet) ++ twoBytes (p .times .recovery) ++ twoBytes (p .times .space) ++ twoBytes (p .times .start) ++ replicate 12 0
-
-abbrev pub entryBytes : NodeEntry → List ℕ
-entryBytes e = e .address ∷ e .class ∷ e .method ∷ e .reserved ∷ []
+    0x50 ∷ 1 ∷ twoBytes (p .revision) ++ p .nodecount ∷ 0 ∷ timesBytes (p .times) ++ replicate 12 0
 
 -- byte o of the plan block, its check left 0: "From 32, N entries of 4 bytes"
 unfoldable pub planByte : Plan → ℕ → ℕ
@@ -38,9 +33,6 @@ rowsIn rowcount b = pick (eqb b 1) (min rowcount blockRows) (rowcount - blockRow
 -- the first 8 bytes of a message block: "0 = 4D hex; 1 = 1; 2-3 the plan's revision; 4 = rows"
 unfoldable pub messageHead : ℕ → ℕ → List ℕ
 messageHead revision rows = 0x4d ∷ 1 ∷ twoBytes revision ++ rows ∷ 0 ∷ 0 ∷ 0 ∷ []
-
-abbrev pub rowBytes : Row → List ℕ
-rowBytes r = r .reqid ∷ r .publisher ∷ r .length ∷ r .kind ∷ []
 
 -- byte o of message block b, its check left 0: "from 8, rows of 4 bytes"
 unfoldable pub messageByte : Plan → ℕ → ℕ → ℕ

@@ -1,28 +1,29 @@
-// The blocks of a plan's set, put into a buffer run by run.
+// The blocks of a packed record's set, put into a buffer run by run.
 ghost use mathlib.Core.Path.{_≡_};
-ghost use mathlib.Core.List.{[], _∷_, _++_};
+ghost use mathlib.Core.List.{_++_};
 ghost use Prim.Native.Nat.{_+_, _*_, _-_, _≤_, _<_};
 ghost use lib.ListN.{length, drop};
 ghost use Rattle.folds.specs.Fold.{tab};
-ghost use Rattle.blocks.specs.Bytes.{byte};
+ghost use Rattle.blocks.specs.Puts.{Put};
 ghost use Rattle.blocks.specs.Limits.{blockLength};
 ghost use Rattle.plan.specs.Limits.{maxNodes, maxRows, blockRows};
+ghost use Rattle.plan_bytes.specs.Places.{recordLength};
+ghost use Rattle.plan_bytes.specs.Record.{recordOf};
 ghost use Rattle.writer.specs.Write.{planHead, rowsIn, messageHead, messageByte, dataByte, setLength, withCheck, withChecks};
-ghost use Rattle.writer.specs.Runs.{Put, entryByteAt, rowByteFrom};
 use blocks::BLOCK_LENGTH;
 use blocks::block_check;
 use blocks::put;
 use blocks::put_zeros;
-use plan::NodeEntry;
 use plan::Plan;
-use plan::Row;
+use plan_bytes::ENTRIES_AT;
+use plan_bytes::ROWS_AT;
 
-fn plan_head(p: Plan) -> [u8; 32]
-    ensures { λ r. ⌜ r ≡ planHead p ⌝ }
+fn plan_head(plan: &[u8]) -> [u8; 32]
+    ensures { λ r. ⌜ r ≡ planHead (recordOf (now (plan .entry))) ⌝ }
 {
-    let t = p.times;
-    let v = p.revision;
-    let n = p.nodecount;
+    let t = plan_bytes::times_of(plan);
+    let v = plan_bytes::revision_of(plan);
+    let n = plan_bytes::node_count(plan);
     [
         0x50,
         1,
@@ -96,108 +97,39 @@ fn message_head(revision: u16, rowcount: u16, b: usize) -> [u8; 8]
     ]
 }
 
-// Four direct stores, which are compiled to one.
-fn put_four(buffer: &mut [u8], o: usize, v0: u8, v1: u8, v2: u8, v3: u8)
-    requires { ⌜ (o + 4 ≤ length (now buffer)) × (o ≤ 4096) ⌝ }
-    ensures { λ _. ⌜ Put o 4 (byte (v0 ∷ v1 ∷ v2 ∷ v3 ∷ [])) (now (buffer .entry)) (now (buffer .exit)) ⌝ }
+fn put_plan(plan: &[u8], buffer: &mut [u8])
+    requires { ⌜ (length (now plan) ≡ recordLength) × (recordOf (now plan) .nodecount ≤ maxNodes) × (blockLength ≤ length (now buffer)) ⌝ }
+    ensures { λ _. ⌜ Put 0 blockLength (dataByte (recordOf (now (plan .entry)))) (now (buffer .entry)) (now (buffer .exit)) ⌝ }
 {
-    buffer[o] = v0;
-    buffer[o + 1] = v1;
-    buffer[o + 2] = v2;
-    buffer[o + 3] = v3;
-}
-
-pub(crate) fn put_entries(
-    buffer: &mut [u8],
-    start: usize,
-    nodes: [NodeEntry; Plan::NODES],
-    count: usize,
-)
-    requires { ⌜ (count ≤ maxNodes) × (start + 4 * count ≤ length (now buffer)) × (start ≤ 2048) ⌝ }
-    ensures { λ _. ⌜ Put start (4 * count) (entryByteAt nodes) (now (buffer .entry)) (now (buffer .exit)) ⌝ }
-{
-    let mut k: usize = 0;
-    while k < count {
-        let e = nodes[k];
-        put_four(
-            buffer,
-            start + 4 * k,
-            e.address,
-            e.class,
-            e.method,
-            e.reserved,
-        );
-        k += 1;
-    }
-}
-
-// Puts some rows from a first one on.
-pub(crate) fn put_rows(
-    buffer: &mut [u8],
-    rows: [Row; Plan::ROWS],
-    start: usize,
-    first: usize,
-    count: usize,
-)
-    requires { ⌜ (first + count ≤ maxRows) × (start + 4 * count ≤ length (now buffer)) × (start ≤ 2048) ⌝ }
-    ensures { λ _. ⌜ Put start (4 * count) (rowByteFrom rows first) (now (buffer .entry)) (now (buffer .exit)) ⌝ }
-{
-    let mut j: usize = 0;
-    while j < count {
-        let r = rows[first + j];
-        put_four(
-            buffer,
-            start + 4 * j,
-            r.reqid,
-            r.publisher,
-            r.length,
-            r.kind,
-        );
-        j += 1;
-    }
-}
-
-fn put_plan(p: Plan, buffer: &mut [u8])
-    requires { ⌜ (p .nodecount ≤ maxNodes) × (blockLength ≤ length (now buffer)) ⌝ }
-    ensures { λ _. ⌜ Put 0 blockLength (dataByte p) (now (buffer .entry)) (now (buffer .exit)) ⌝ }
-{
-    let count = p.nodecount as usize;
-    let nodes = p.nodes;
-    let head = plan_head(p);
+    let end = 4 * (plan_bytes::node_count(plan) as usize);
+    let head = plan_head(plan);
     put(buffer, 0, &head[..]);
-    put_entries(buffer, 32, nodes, count);
-    put_zeros(buffer, 32 + 4 * count, 480 - 4 * count);
+    put(buffer, 32, &plan[ENTRIES_AT..ENTRIES_AT + end]);
+    put_zeros(buffer, 32 + end, 480 - end);
 }
 
-fn put_message(p: Plan, buffer: &mut [u8], b: usize)
-    requires { ⌜ (p .rowcount ≤ maxRows) × (1 ≤ b) × (b < 3) × (blockLength * b + blockLength ≤ length (now buffer)) ⌝ }
-    ensures { λ _. ⌜ Put (blockLength * b) blockLength (messageByte p b) (now (buffer .entry)) (now (buffer .exit)) ⌝ }
+fn put_message(plan: &[u8], buffer: &mut [u8], b: usize)
+    requires { ⌜ (length (now plan) ≡ recordLength) × (recordOf (now plan) .rowcount ≤ maxRows) × (1 ≤ b) × (b < 3) × (blockLength * b + blockLength ≤ length (now buffer)) ⌝ }
+    ensures { λ _. ⌜ Put (blockLength * b) blockLength (messageByte (recordOf (now (plan .entry))) b) (now (buffer .entry)) (now (buffer .exit)) ⌝ }
 {
-    let rowcount = p.rowcount;
-    let rows = p.rows;
-    let count = rows_in(rowcount, b) as usize;
-    let head = message_head(p.revision, rowcount, b);
+    let rowcount = plan_bytes::row_count(plan);
+    let end = 4 * (rows_in(rowcount, b) as usize);
+    let first = ROWS_AT + 4 * (Plan::BLOCK_ROWS as usize) * (b - 1);
+    let head = message_head(plan_bytes::revision_of(plan), rowcount, b);
     put(buffer, BLOCK_LENGTH * b, &head[..]);
-    put_rows(
-        buffer,
-        rows,
-        BLOCK_LENGTH * b + 8,
-        (Plan::BLOCK_ROWS as usize) * (b - 1),
-        count,
-    );
-    put_zeros(buffer, BLOCK_LENGTH * b + 8 + 4 * count, 504 - 4 * count);
+    put(buffer, BLOCK_LENGTH * b + 8, &plan[first..first + end]);
+    put_zeros(buffer, BLOCK_LENGTH * b + 8 + end, 504 - end);
 }
 
 // Puts every byte of the set but the checks, which are left 0.
-pub(crate) fn put_data(p: Plan, buffer: &mut [u8])
-    requires { ⌜ (setLength (p .rowcount) ≤ length (now buffer)) × (p .nodecount ≤ maxNodes) × (p .rowcount ≤ maxRows) ⌝ }
-    ensures { λ _. ⌜ now (buffer .exit) ≡ tab (setLength (p .rowcount)) (dataByte p) ++ drop (setLength (p .rowcount)) (now (buffer .entry)) ⌝ }
+pub(crate) fn put_data(plan: &[u8], buffer: &mut [u8])
+    requires { ⌜ (length (now plan) ≡ recordLength) × (setLength (recordOf (now plan) .rowcount) ≤ length (now buffer)) × (recordOf (now plan) .nodecount ≤ maxNodes) × (recordOf (now plan) .rowcount ≤ maxRows) ⌝ }
+    ensures { λ _. ⌜ now (buffer .exit) ≡ tab (setLength (recordOf (now (plan .entry)) .rowcount)) (dataByte (recordOf (now (plan .entry)))) ++ drop (setLength (recordOf (now (plan .entry)) .rowcount)) (now (buffer .entry)) ⌝ }
 {
-    let rowcount = p.rowcount;
-    put_plan(p, buffer);
-    put_message(p, buffer, 1);
-    if Plan::BLOCK_ROWS < rowcount {
-        put_message(p, buffer, 2);
+    put_plan(plan, buffer);
+    put_message(plan, buffer, 1);
+    if Plan::BLOCK_ROWS < plan_bytes::row_count(plan) {
+        put_message(plan, buffer, 2);
     }
 }
 

@@ -1,53 +1,29 @@
--- A refused plan leaves the buffer; an accepted one is put there, then its checks. Assumes nothing.
-use mathlib.Core.Path.{_≡_, sym, ap, _∙_}
-use lib.ListN.{length}
-use native.Mathlib.Omega.{arith}
-use Rattle.plan.proofs.Accepted.{accepted, nodes-few, rows-few}
-use Rattle.writer.specs.Write.{writeRefusal, withChecks}
-use Rattle.writer.proofs.Refusals.{room, refused-answer, refused-buffer, done-answer, done-buffer}
+-- Through the packed record. Assumes nothing.
 use borrow.Author.Needs.{needs}
 use Rattle.writer.proofs.write.Statement.{statement}
 use Rattle.writer.proofs.write.Tie as tie
 
-none : (c : tie.Else1) → writeRefusal (c .before .before .before .args .p) (length (c .before .before .before .args .buffer .now)) ≡ 0
-none c = sym (c .before .write-refusal .ensures) ∙ c .if1 .left
+bytes-of-requires : tie.Need-bytes-of-requires
+bytes-of-requires c κs = search needs
 
-write-refusal-requires : tie.Need-write-refusal-requires
-write-refusal-requires c κs = search needs
+slice-aggregate-write-record : tie.Need-slice-aggregate-write-record
+slice-aggregate-write-record c = search needs
 
-returns : tie.Need-returns
-returns c = (refused-answer _ _ _ (c .before .write-refusal .ensures) (c .if1 .taken), refused-buffer _ _ _ (c .before .write-refusal .ensures) (c .if1 .taken))
-
-set-length-requires : tie.Need-set-length-requires
-set-length-requires c κs = search needs
-
-put-data-requires : tie.Need-put-data-requires
-put-data-requires c κs =
-    let p = c .before .before .before .before .before .args .p in
-    let w = room p _ (none (c .before .before)) in
-    let a = accepted p (w .0) in
-    omega (arith, w .1, nodes-few p (a .nodes), rows-few p (a .rows))
-
-put-checks-requires : tie.Need-put-checks-requires
-put-checks-requires c κs = omega (arith, room (c .before .before .before .before .before .before .before .before .before .args .p) _ (none (c .before .before .before .before .before .before)) .1)
+write-record-requires : tie.Need-write-record-requires
+write-record-requires c κs = search needs
 
 same-length : tie.Need-same-length
 same-length c = search needs
 
-returns-2 : tie.Need-returns-2
-returns-2 c =
-    let p = c .before .before .before .before .before .before .before .before .before .before .before .before .args .p in
-    let e = none (c .before .before .before .before .before .before .before .before .before) in
-    (done-answer p _ _ e (c .before .before .before .before .before .before .before .before .set-length .ensures), c .before .before .put-checks .ensures ∙ ap (withChecks (p .rowcount)) (c .before .before .before .before .before .before .put-data .ensures) ∙ done-buffer p (c .before .before .before .before .before .before .before .before .before .before .before .before .args .buffer .now) e)
+returns : tie.Need-returns
+returns c = rw (c .before .before .before .before .before .bytes-of .ensures .1) at (c .before .before .write-record .ensures)
 
 pub write-spec : {M : Type 1} → statement M
 write-spec =
     tie.close
     (tie.spec
-    write-refusal-requires
-    returns
-    set-length-requires
-    put-data-requires
-    put-checks-requires
+    bytes-of-requires
+    slice-aggregate-write-record
+    write-record-requires
     same-length
-    returns-2)
+    returns)

@@ -29,6 +29,9 @@ number-at-requires c κs = search needs
 number-at-requires-2 : tie.Need-number-at-requires-2
 number-at-requires-2 c κs = search needs
 
+add-number-at : tie.Need-add-number-at
+add-number-at c = search needs
+
 number-at-requires-3 : tie.Need-number-at-requires-3
 number-at-requires-3 c κs = search needs
 
@@ -64,6 +67,7 @@ master-from-spec =
     byte-at-requires-3
     number-at-requires
     number-at-requires-2
+    add-number-at
     number-at-requires-3
     long-number-requires
     returns)

@@ -28,6 +28,9 @@ byte-at-requires-7 c κs = search needs
 byte-at-requires-8 : tie.Need-byte-at-requires-8
 byte-at-requires-8 c κs = search needs
 
+add-number-at : tie.Need-add-number-at
+add-number-at c = search needs
+
 number-at-requires : tie.Need-number-at-requires
 number-at-requires c κs = search needs
 
@@ -58,5 +61,6 @@ is-node-spec =
     byte-at-requires-6
     byte-at-requires-7
     byte-at-requires-8
+    add-number-at
     number-at-requires
     returns)

@@ -11,6 +11,9 @@ state-of-requires c κs = search needs
 byte-at-requires-2 : tie.Need-byte-at-requires-2
 byte-at-requires-2 c κs = search needs
 
+add-number-at : tie.Need-add-number-at
+add-number-at c = search needs
+
 number-at-requires : tie.Need-number-at-requires
 number-at-requires c κs = search needs
 
@@ -40,6 +43,9 @@ number-at-requires-2 c κs = search needs
 
 number-at-requires-3 : tie.Need-number-at-requires-3
 number-at-requires-3 c κs = search needs
+
+add-number-at-2 : tie.Need-add-number-at-2
+add-number-at-2 c = search needs
 
 number-at-requires-4 : tie.Need-number-at-requires-4
 number-at-requires-4 c κs = search needs
@@ -74,6 +80,7 @@ node-from-spec =
     byte-at-requires
     state-of-requires
     byte-at-requires-2
+    add-number-at
     number-at-requires
     delay-of-requires
     table-at-requires
@@ -84,6 +91,7 @@ node-from-spec =
     byte-at-requires-7
     number-at-requires-2
     number-at-requires-3
+    add-number-at-2
     number-at-requires-4
     long-number-requires
     returns)

@@ -6,7 +6,7 @@ use native.Mathlib.Omega.{arith}
 use Rattle.folds.proofs.Tables.{length-tab}
 use Rattle.plan.specs.declared.NodeEntry.{NodeEntry}
 use Rattle.plan.specs.Record.{zeroEntry}
-use Rattle.reader.specs.Record.{recordEntry, nodesIn}
+use Rattle.plan_bytes.specs.Record.{recordEntry, nodesIn}
 use Rattle.plan_bytes.proofs.Nodes.{entry-in}
 use borrow.Author.Needs.{needs}
 use Rattle.plan_bytes.proofs.fields.polled_in.Statement.{statement}

@@ -7,7 +7,7 @@ use Rattle.folds.specs.Fold.{anyTo}
 use Rattle.folds.proofs.AllAny.{any-none}
 use Rattle.folds.proofs.First.{none-next}
 use Rattle.plan.specs.Find.{hasReqid}
-use Rattle.reader.specs.Record.{rowsIn}
+use Rattle.plan_bytes.specs.Record.{rowsIn}
 use Rattle.plan_bytes.proofs.Rows.{other, found, missing}
 use borrow.Author.Needs.{needs}
 use Rattle.plan_bytes.proofs.fields.row_in.Statement.{statement}

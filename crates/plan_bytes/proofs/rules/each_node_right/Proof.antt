@@ -9,7 +9,7 @@ use Rattle.folds.proofs.AllAny.{all-none, all-more, all-false, any-none}
 use Rattle.folds.proofs.Tables.{marked-more}
 use Rattle.plan.specs.Rules.{nodeRight}
 use Rattle.plan.proofs.Addresses.{hasAddress}
-use Rattle.reader.specs.Record.{nodesIn}
+use Rattle.plan_bytes.specs.Record.{nodesIn}
 use Rattle.plan_bytes.proofs.Nodes.{its-address, wrong, taken-again, right}
 use borrow.Author.Needs.{needs}
 use Rattle.plan_bytes.proofs.rules.each_node_right.Statement.{statement}

@@ -8,7 +8,7 @@ use Rattle.folds.specs.Fold.{allTo, anyTo}
 use Rattle.folds.proofs.AllAny.{all-none, all-more, all-false, any-none}
 use Rattle.folds.proofs.Tables.{marked-more}
 use Rattle.plan.specs.Rules.{reqidBefore, rowRight, isFrom, publishes}
-use Rattle.reader.specs.Record.{rowsIn}
+use Rattle.plan_bytes.specs.Record.{rowsIn}
 use Rattle.plan_bytes.proofs.Rows.{its-publisher, next-before, judged, refuses-7, refuses-8, keeps}
 use borrow.Author.Needs.{needs}
 use Rattle.plan_bytes.proofs.rules.rows_refusal.Statement.{statement}

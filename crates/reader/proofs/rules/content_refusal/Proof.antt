@@ -4,7 +4,8 @@ use mathlib.Core.List.{[], _∷_}
 use borrow.Author.Tests.{not-true, not-false}
 use Rattle.folds.specs.Fold.{pick}
 use Rattle.folds.specs.FirstBroken.{firstBroken}
-use Rattle.plan.specs.Rules.{inRange}
+use Rattle.plan.specs.Rules.{inRange, planRefusal}
+use Rattle.reader.specs.Layout.{planOf}
 use Rattle.reader.proofs.Content.{other-revision, wrong-count, plan-refused, filler-last}
 use borrow.Author.Needs.{needs}
 use Rattle.reader.proofs.rules.content_refusal.Statement.{statement}
@@ -14,10 +15,7 @@ revisions-same-requires : tie.Need-revisions-same-requires
 revisions-same-requires c κs = search needs
 
 returns : tie.Need-returns
-returns c = sym (other-revision _ (c .before .before .before .args .p) (sym (c .before .revisions-same .ensures) ∙ not-true _ (c .if1 .taken)))
-
-plan-refusal-requires : tie.Need-plan-refusal-requires
-plan-refusal-requires c κs = search needs
+returns c = sym (other-revision _ (planOf (c .before .before .before .args .s .now)) (sym (c .before .revisions-same .ensures) ∙ not-true _ (c .if1 .taken)))
 
 counts-right-requires : tie.Need-counts-right-requires
 counts-right-requires c κs = search needs
@@ -26,29 +24,33 @@ with-wrong-count-requires : tie.Need-with-wrong-count-requires
 with-wrong-count-requires c κs = search needs
 
 returns-2 : tie.Need-returns-2
-returns-2 c =
-    c .with-wrong-count .ensures ∙ ap (λ k. pick (inRange 4 6 k) k 7) (c .before .before .before .plan-refusal .ensures)
-    ∙ sym (wrong-count _ (c .before .before .before .before .before .before .before .args .p) (sym (c .before .before .before .before .before .revisions-same .ensures) ∙ not-false _ (c .before .before .before .before .if1 .left)) (sym (c .before .before .counts-right .ensures) ∙ not-true _ (c .before .if2 .taken)))
+returns-2 c = 
+    let p = planOf (c .before .before .before .before .before .before .args .s .now) in
+    let is : c .before .before .before .before .before .before .args .refusal ≡ planRefusal p = search needs in
+    c .with-wrong-count .ensures ∙ ap (λ k. pick (inRange 4 6 k) k 7) is ∙ sym (wrong-count _ p (sym (c .before .before .before .before .revisions-same .ensures) ∙ not-false _ (c .before .before .before .if1 .left)) (sym (c .before .before .counts-right .ensures) ∙ not-true _ (c .before .if2 .taken)))
 
 returns-3 : tie.Need-returns-3
-returns-3 c =
-    c .before .before .before .plan-refusal .ensures
-    ∙ sym (plan-refused _ (c .before .before .before .before .before .before .before .args .p) (sym (c .before .before .before .before .before .revisions-same .ensures) ∙ not-false _ (c .before .before .before .before .if1 .left)) (sym (c .before .before .counts-right .ensures) ∙ not-false _ (c .before .if2 .left)) (λ z. c .if3 .taken (c .before .before .before .plan-refusal .ensures ∙ z)))
+returns-3 c = 
+    let p = planOf (c .before .before .before .before .before .before .args .s .now) in
+    let is : c .before .before .before .before .before .before .args .refusal ≡ planRefusal p = search needs in
+    is ∙ sym (plan-refused _ p (sym (c .before .before .before .before .revisions-same .ensures) ∙ not-false _ (c .before .before .before .if1 .left)) (sym (c .before .before .counts-right .ensures) ∙ not-false _ (c .before .if2 .left)) (λ z. c .if3 .taken (is ∙ z)))
 
 filler-right-requires : tie.Need-filler-right-requires
 filler-right-requires c κs = search needs
 
 returns-4 : tie.Need-returns-4
-returns-4 c =
-    let z : c .before .before .before .before .before .plan-refusal .result ≡ 0 = search needs in
-    ap (λ b. firstBroken 9 (b ∷ [])) (sym (sym (c .before .filler-right .ensures) ∙ not-true _ (c .if4 .taken)))
-    ∙ sym (filler-last _ (c .before .before .before .before .before .before .before .before .before .args .p) (sym (c .before .before .before .before .before .before .before .revisions-same .ensures) ∙ not-false _ (c .before .before .before .before .before .before .if1 .left)) (sym (c .before .before .before .before .counts-right .ensures) ∙ not-false _ (c .before .before .before .if2 .left)) (sym (c .before .before .before .before .before .plan-refusal .ensures) ∙ z))
+returns-4 c = 
+    let p = planOf (c .before .before .before .before .before .before .before .before .args .s .now) in
+    let is : c .before .before .before .before .before .before .before .before .args .refusal ≡ planRefusal p = search needs in
+    let z : c .before .before .before .before .before .before .before .before .args .refusal ≡ 0 = search needs in
+    ap (λ b. firstBroken 9 (b ∷ [])) (sym (sym (c .before .filler-right .ensures) ∙ not-true _ (c .if4 .taken))) ∙ sym (filler-last _ p (sym (c .before .before .before .before .before .before .revisions-same .ensures) ∙ not-false _ (c .before .before .before .before .before .if1 .left)) (sym (c .before .before .before .before .counts-right .ensures) ∙ not-false _ (c .before .before .before .if2 .left)) (sym is ∙ z))
 
 returns-5 : tie.Need-returns-5
-returns-5 c =
-    let z : c .before .before .before .before .before .plan-refusal .result ≡ 0 = search needs in
-    ap (λ b. firstBroken 9 (b ∷ [])) (sym (sym (c .before .filler-right .ensures) ∙ not-false _ (c .if4 .left)))
-    ∙ sym (filler-last _ (c .before .before .before .before .before .before .before .before .before .args .p) (sym (c .before .before .before .before .before .before .before .revisions-same .ensures) ∙ not-false _ (c .before .before .before .before .before .before .if1 .left)) (sym (c .before .before .before .before .counts-right .ensures) ∙ not-false _ (c .before .before .before .if2 .left)) (sym (c .before .before .before .before .before .plan-refusal .ensures) ∙ z))
+returns-5 c = 
+    let p = planOf (c .before .before .before .before .before .before .before .before .args .s .now) in
+    let is : c .before .before .before .before .before .before .before .before .args .refusal ≡ planRefusal p = search needs in
+    let z : c .before .before .before .before .before .before .before .before .args .refusal ≡ 0 = search needs in
+    ap (λ b. firstBroken 9 (b ∷ [])) (sym (sym (c .before .filler-right .ensures) ∙ not-false _ (c .if4 .left))) ∙ sym (filler-last _ p (sym (c .before .before .before .before .before .before .revisions-same .ensures) ∙ not-false _ (c .before .before .before .before .before .if1 .left)) (sym (c .before .before .before .before .counts-right .ensures) ∙ not-false _ (c .before .before .before .if2 .left)) (sym is ∙ z))
 
 pub content-refusal-spec : {M : Type 1} → statement M
 content-refusal-spec =
@@ -56,7 +58,6 @@ content-refusal-spec =
     (tie.spec
     revisions-same-requires
     returns
-    plan-refusal-requires
     counts-right-requires
     with-wrong-count-requires
     returns-2

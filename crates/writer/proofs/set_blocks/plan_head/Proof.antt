@@ -4,6 +4,15 @@ use borrow.Author.Needs.{needs}
 use Rattle.writer.proofs.set_blocks.plan_head.Statement.{statement}
 use Rattle.writer.proofs.set_blocks.plan_head.Tie as tie
 
+times-of-requires : tie.Need-times-of-requires
+times-of-requires c κs = search needs
+
+revision-of-requires : tie.Need-revision-of-requires
+revision-of-requires c κs = search needs
+
+node-count-requires : tie.Need-node-count-requires
+node-count-requires c κs = search needs
+
 cast-t6 : tie.Need-cast-t6
 cast-t6 c = search needs
 
@@ -54,12 +63,15 @@ cast-t36 c = search needs
 
 returns : tie.Need-returns
 unfolding planHead
-returns c = search needs
+returns c = rw (← c .before .before .before .before .before .before .before .before .before .before .before .before .before .before .before .before .times-of .ensures, ← c .before .before .before .before .before .before .before .before .before .before .before .before .before .before .before .revision-of .ensures, ← c .before .before .before .before .before .before .before .before .before .before .before .before .before .before .node-count .ensures)
 
 pub plan-head-spec : {M : Type 1} → statement M
 plan-head-spec =
     tie.close
     (tie.spec
+    times-of-requires
+    revision-of-requires
+    node-count-requires
     cast-t6
     cast-t8
     cast-t10

@@ -1,14 +1,39 @@
 -- Run by run. Assumes nothing.
-use Rattle.writer.proofs.BlockRuns.{message-put}
+use mathlib.Core.Path.{_∙_}
+use Rattle.writer.proofs.BlockRuns.{message-put-from}
 use borrow.Author.Needs.{needs}
 use Rattle.writer.proofs.set_blocks.put_message.Statement.{statement}
 use Rattle.writer.proofs.set_blocks.put_message.Tie as tie
 
+row-count-requires : tie.Need-row-count-requires
+row-count-requires c κs = search needs
+
 rows-in-requires : tie.Need-rows-in-requires
 rows-in-requires c κs = search needs
 
-cast-count : tie.Need-cast-count
-cast-count c = search needs
+cast-end : tie.Need-cast-end
+cast-end c = search needs
+
+mul-end : tie.Need-mul-end
+mul-end c = search needs
+
+cast-first : tie.Need-cast-first
+cast-first c = search needs
+
+mul-first : tie.Need-mul-first
+mul-first c = search needs
+
+sub-first : tie.Need-sub-first
+sub-first c = search needs
+
+mul-first-2 : tie.Need-mul-first-2
+mul-first-2 c = search needs
+
+add-first : tie.Need-add-first
+add-first c = search needs
+
+revision-of-requires : tie.Need-revision-of-requires
+revision-of-requires c κs = search needs
 
 message-head-requires : tie.Need-message-head-requires
 message-head-requires c κs = search needs
@@ -22,23 +47,26 @@ slice-aggregate-put c = search needs
 put-requires : tie.Need-put-requires
 put-requires c κs = search needs
 
-mul-put-rows : tie.Need-mul-put-rows
-mul-put-rows c = search needs
+mul-put-2 : tie.Need-mul-put-2
+mul-put-2 c = search needs
 
-add-put-rows : tie.Need-add-put-rows
-add-put-rows c = search needs
+add-put : tie.Need-add-put
+add-put c = search needs
 
-cast-put-rows : tie.Need-cast-put-rows
-cast-put-rows c = search needs
+add-put-2 : tie.Need-add-put-2
+add-put-2 c = search needs
 
-sub-put-rows : tie.Need-sub-put-rows
-sub-put-rows c = search needs
+sub-put : tie.Need-sub-put
+sub-put c = search needs
 
-mul-put-rows-2 : tie.Need-mul-put-rows-2
-mul-put-rows-2 c = search needs
+part-put-start : tie.Need-part-put-start
+part-put-start c = search needs
 
-put-rows-requires : tie.Need-put-rows-requires
-put-rows-requires c κs = search needs
+part-put-end : tie.Need-part-put-end
+part-put-end c = search needs
+
+put-requires-2 : tie.Need-put-requires-2
+put-requires-2 c κs = search needs
 
 mul-put-zeros : tie.Need-mul-put-zeros
 mul-put-zeros c = search needs
@@ -46,14 +74,8 @@ mul-put-zeros c = search needs
 add-put-zeros : tie.Need-add-put-zeros
 add-put-zeros c = search needs
 
-mul-put-zeros-2 : tie.Need-mul-put-zeros-2
-mul-put-zeros-2 c = search needs
-
 add-put-zeros-2 : tie.Need-add-put-zeros-2
 add-put-zeros-2 c = search needs
-
-mul-put-zeros-3 : tie.Need-mul-put-zeros-3
-mul-put-zeros-3 c = search needs
 
 sub-put-zeros : tie.Need-sub-put-zeros
 sub-put-zeros c = search needs
@@ -65,30 +87,38 @@ same-length : tie.Need-same-length
 same-length c = search needs
 
 returns : tie.Need-returns
-returns c =
-    message-put _ _ _ _ _ _ _ _ (c .before .before .before .before .before .before .before .before .before .before .before .before .before .before .rows-in .ensures .0) (c .before .before .before .before .before .before .before .before .before .before .before .before .before .before .rows-in .ensures .1) (search needs) (c .before .before .before .before .before .before .before .before .before .before .before .before .before .message-head .ensures) (c .before .before .before .before .before .before .before .before .before .before .put .ensures) (c .before .before .before .before .before .before .put-rows .ensures) (c .before .before .put-zeros .ensures)
+returns c = 
+    let e = c .before .before .before .before .before .before .before .before .before .before .before .before .before .before .before .before .before .row-count .ensures in
+    message-put-from (c .before .before .before .before .before .before .before .before .before .before .before .before .before .before .before .before .before .before .before .before .args .plan .now) (search needs) _ _ _ _ _ _ _ (search needs) (rw e at (c .before .before .before .before .before .before .before .before .before .before .before .before .before .before .before .before .rows-in .ensures .0)) (c .before .before .before .before .before .before .before .before .before .before .before .before .before .before .before .before .rows-in .ensures .1) (c .before .before .before .before .before .before .before .before .before .before .before .before .before .before .before .before .rows-in .ensures .2) (search needs) (c .before .before .before .before .before .before .before .before .before .before .before .before .before .before .message-head .ensures ∙ rw (c .before .before .before .before .before .before .before .before .before .before .before .before .before .before .before .revision-of .ensures, e)) (c .before .before .before .before .before .before .before .before .before .before .before .put .ensures) (c .before .before .before .before .before .before .put2 .ensures) (c .before .before .put-zeros .ensures)
 
 pub put-message-spec : {M : Type 1} → statement M
 put-message-spec =
     tie.close
     (tie.spec
+    row-count-requires
     rows-in-requires
-    cast-count
+    cast-end
+    mul-end
+    cast-first
+    mul-first
+    sub-first
+    mul-first-2
+    add-first
+    revision-of-requires
     message-head-requires
     mul-put
     slice-aggregate-put
     put-requires
-    mul-put-rows
-    add-put-rows
-    cast-put-rows
-    sub-put-rows
-    mul-put-rows-2
-    put-rows-requires
+    mul-put-2
+    add-put
+    add-put-2
+    sub-put
+    part-put-start
+    part-put-end
+    put-requires-2
     mul-put-zeros
     add-put-zeros
-    mul-put-zeros-2
     add-put-zeros-2
-    mul-put-zeros-3
     sub-put-zeros
     put-zeros-requires
     same-length

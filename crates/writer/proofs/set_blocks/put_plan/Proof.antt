@@ -1,11 +1,18 @@
 -- Run by run. Assumes nothing.
-use Rattle.writer.proofs.BlockRuns.{plan-put}
+use native.Mathlib.Omega.{arith}
+use Rattle.writer.proofs.BlockRuns.{plan-put-from}
 use borrow.Author.Needs.{needs}
 use Rattle.writer.proofs.set_blocks.put_plan.Statement.{statement}
 use Rattle.writer.proofs.set_blocks.put_plan.Tie as tie
 
-cast-count : tie.Need-cast-count
-cast-count c = search needs
+node-count-requires : tie.Need-node-count-requires
+node-count-requires c κs = search needs
+
+cast-end : tie.Need-cast-end
+cast-end c = search needs
+
+mul-end : tie.Need-mul-end
+mul-end c = search needs
 
 plan-head-requires : tie.Need-plan-head-requires
 plan-head-requires c κs = search needs
@@ -16,17 +23,23 @@ slice-aggregate-put c = search needs
 put-requires : tie.Need-put-requires
 put-requires c κs = search needs
 
-put-entries-requires : tie.Need-put-entries-requires
-put-entries-requires c κs = search needs
+add-put : tie.Need-add-put
+add-put c = search needs
 
-mul-put-zeros : tie.Need-mul-put-zeros
-mul-put-zeros c = search needs
+sub-put : tie.Need-sub-put
+sub-put c = search needs
+
+part-put-start : tie.Need-part-put-start
+part-put-start c = search needs
+
+part-put-end : tie.Need-part-put-end
+part-put-end c = search needs
+
+put-requires-2 : tie.Need-put-requires-2
+put-requires-2 c κs = search needs
 
 add-put-zeros : tie.Need-add-put-zeros
 add-put-zeros c = search needs
-
-mul-put-zeros-2 : tie.Need-mul-put-zeros-2
-mul-put-zeros-2 c = search needs
 
 sub-put-zeros : tie.Need-sub-put-zeros
 sub-put-zeros c = search needs
@@ -38,21 +51,24 @@ same-length : tie.Need-same-length
 same-length c = search needs
 
 returns : tie.Need-returns
-returns c =
-    plan-put _ _ _ _ _ _ (search needs) (search needs) (c .before .before .before .before .before .before .before .before .before .before .before .before .before .plan-head .ensures) (c .before .before .before .before .before .before .before .before .before .before .put .ensures) (c .before .before .before .before .before .before .put-entries .ensures) (c .before .before .put-zeros .ensures)
+returns c = plan-put-from (c .before .before .before .before .before .before .before .before .before .before .before .before .before .before .before .before .before .before .args .plan .now) (search needs) _ _ _ _ _ _ (c .before .before .before .before .before .before .before .before .before .before .before .before .before .before .before .node-count .ensures) (omega (arith, c .before .before .before .before .before .before .before .before .before .before .before .before .before .before .before .node-count .ensures)) (search needs) (c .before .before .before .before .before .before .before .before .before .before .before .before .before .before .plan-head .ensures) (c .before .before .before .before .before .before .before .before .before .before .before .put .ensures) (c .before .before .before .before .before .before .put2 .ensures) (c .before .before .put-zeros .ensures)
 
 pub put-plan-spec : {M : Type 1} → statement M
 put-plan-spec =
     tie.close
     (tie.spec
-    cast-count
+    node-count-requires
+    cast-end
+    mul-end
     plan-head-requires
     slice-aggregate-put
     put-requires
-    put-entries-requires
-    mul-put-zeros
+    add-put
+    sub-put
+    part-put-start
+    part-put-end
+    put-requires-2
     add-put-zeros
-    mul-put-zeros-2
     sub-put-zeros
     put-zeros-requires
     same-length
