@@ -1,4 +1,5 @@
 pub mod Clock
 pub mod InRange
 pub mod InRun
+pub mod Places
 pub mod Refusals

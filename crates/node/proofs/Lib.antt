@@ -2,6 +2,7 @@ pub mod Cases
 pub mod Commands
 pub mod ErrorShows
 pub mod InRange
+pub mod Places
 pub mod Refusals
 pub mod Settling
 pub mod WithClock
