@@ -1,3 +1,4 @@
+pub mod Chains
 pub mod MasterCalls
 pub mod NodeCalls
 pub mod Version

@@ -65,9 +65,12 @@ module _ (s : List ℕ) where
   unfolding readSet planOf rowsOf zeroPlan
   rows-long = by-test (λ (a : ReadAnswer). length (a .plan .rows) ≡ 127) (eqb (setRefusal s) 0) (λ _. length-tab 127 (rowOf s (rowcountOf s))) (λ _. refl)
 
+  pub read-record-back : recordOf (recordBytes (readSet s .plan)) ≡ readSet s .plan
+  read-record-back = record-back (readSet s .plan) nodes-long rows-long
+
   pub read-back : (d : List ℕ) → length d ≡ 591 → recordOf (recordWritten (readSet s .plan) d) ≡ readSet s .plan
   read-back d n =
-      rw (le-ltb (length d) 591 (omega arith), record-whole (readSet s .plan) d n) (record-back (readSet s .plan) nodes-long rows-long)
+      rw (le-ltb (length d) 591 (omega arith), record-whole (readSet s .plan) d n) read-record-back
 
   pub read-number : (room : ℕ) → 591 ≤ room → recordRefusal s room ≡ readSet s .refusal
   unfolding readSet

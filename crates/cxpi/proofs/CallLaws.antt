@@ -1,0 +1,94 @@
+-- What the calls come to for a host: bytes that are no state or no event are refused, a refused step commands nothing, and a set read and
+-- written back is the same.
+use Prim.Native.Nat.{ℕ, _<_}
+use mathlib.Core.Path.{_≡_, refl, ap, sym, _∙_}
+use mathlib.Core.Bool.{Bool, true, false, _&&_}
+use mathlib.Core.List.{List}
+use lib.ListN.{length, replicate}
+use lib.Dec.{eqb, leb, ltb}
+use borrow.Author.Tests.{eqb-true}
+use Rattle.folds.proofs.Choices.{by-test}
+use Rattle.blocks.specs.Bytes.{byte}
+use Rattle.machine.specs.Counts.{countsBelow}
+use Rattle.plan.specs.declared.Times.{Times}
+use Rattle.plan.specs.declared.Plan.{Plan}
+use Rattle.plan.specs.Record.{zeroPlan, unusedZero}
+use Rattle.plan.specs.Rules.{planRefusal}
+use Rattle.plan_bytes.specs.Record.{recordOf, recordBytes}
+use Rattle.plan_bytes.proofs.Records.{zero-bytes}
+use Rattle.reader.specs.declared.ReadAnswer.{ReadAnswer}
+use Rattle.reader.specs.Read.{setRefusal, readSet}
+use Rattle.reader.proofs.Answers.{read-record-back}
+use Rattle.writer.specs.Write.{writeSet}
+use Rattle.writer.proofs.RoundTrip.{read-of-written, written-of-read}
+use Rattle.master.specs.declared.Command.{Command}
+use Rattle.master.specs.declared.Reply.{Reply}
+use Rattle.master.specs.Changes.{powerOn}
+use Rattle.master.specs.Range as MasterRange
+use Rattle.master.specs.Step as MasterStep
+use Rattle.master.proofs.Refusals as MasterRefusals
+use Rattle.master_bytes.specs.States.{isMaster, masterOf, noMaster}
+use Rattle.master_bytes.specs.Events as MasterEvents
+use Rattle.node.specs.Range as NodeRange
+use Rattle.node.specs.Step as NodeStep
+use Rattle.node_bytes.specs.States.{isNode, nodeOf, noNode}
+use Rattle.node_bytes.specs.Events as NodeEvents
+use Rattle.cxpi.specs.MasterCalls.{masterReply}
+
+-- "bytes that are no state give 11": what they are taken for is out of range under every plan
+no-master : (nodecount : ℕ) (t : Times) → MasterRange.inRange nodecount t noMaster ≡ false
+unfolding MasterRange.inRange
+no-master nodecount t = refl
+
+pub no-master-state : (p : Plan) (s : List ℕ) → isMaster s ≡ false → MasterRange.inRange (p .nodecount) (p .times) (masterOf s) ≡ false
+no-master-state p s e = rw e (no-master (p .nodecount) (p .times))
+
+no-node : (t : Times) → NodeRange.inRange t noNode ≡ false
+unfolding NodeRange.inRange
+no-node t = go (leb 0 (t .quiet)) (countsBelow 4 (noNode .counts))
+  where
+    go : (a b : Bool) → (a && true && false && b) ≡ false
+    go true b = refl
+    go false b = refl
+
+pub no-node-state : (t : Times) (s : List ℕ) → isNode s ≡ false → NodeRange.inRange t (nodeOf s) ≡ false
+no-node-state t s e = rw e (no-node t)
+
+-- "bytes that are no event 15"
+pub no-master-event : MasterStep.eventRight MasterEvents.noEvent ≡ false
+no-master-event = refl
+
+pub no-node-event : NodeStep.eventRight NodeEvents.noEvent ≡ false
+no-node-event = refl
+
+-- "A refused read returns .. an all-zero record": zero bytes
+pub refused-read : (set : List ℕ) → (setRefusal set ≡ 0 → ⊥) → recordBytes (readSet set .plan) ≡ replicate 591 0
+unfolding readSet
+refused-read set n = go (eqb (setRefusal set) 0) refl
+  where
+    go : (b : Bool) → eqb (setRefusal set) 0 ≡ b → recordBytes (readSet set .plan) ≡ replicate 591 0
+    go true e = absurd (n (eqb-true _ _ e))
+    go false e = rw e zero-bytes
+
+-- "A refused step returns .. no command, lost 0", the plan's numbers and 10 too
+module _ (plan state event : List ℕ) (room : ℕ) where
+  pub refused-step : (masterReply plan state event room .refusal ≡ 0 → ⊥) → MasterRefusals.Nothing (masterReply plan state event room)
+  refused-step = go (eqb (planRefusal (recordOf plan)) 0) refl
+    where
+      Quiet : Reply → Type 0
+      Quiet r = (r .refusal ≡ 0 → ⊥) → MasterRefusals.Nothing r
+
+      go : (b : Bool) → eqb (planRefusal (recordOf plan)) 0 ≡ b → Quiet (masterReply plan state event room)
+      go true e =
+          let q = MasterRefusals.refused-plain (masterOf state) (recordOf plan) (MasterEvents.eventOf event) in
+          let k : MasterRefusals.Plain (masterOf state) (MasterStep.stepUnder (recordOf plan) (masterOf state) (MasterEvents.eventOf event)) = rw e at q in
+          rw e (by-test Quiet (ltb room 3) (λ l h. record { command = refl; lost = refl }) (λ l. k .nothing))
+      go false e = rw e (λ h. record { command = refl; lost = refl })
+
+-- a set read and written back through the packed record is the same set
+pub set-back : (set : List ℕ) → ((o : ℕ) → byte set o < 256) → readSet set .refusal ≡ 0 → writeSet (recordOf (recordBytes (readSet set .plan))) ≡ set
+set-back set bytes e = ap writeSet (read-record-back set) ∙ written-of-read set bytes e
+
+-- a record written and read back is the plan with its unused places zero
+pub record-read-back : (plan : List ℕ) → planRefusal (recordOf plan) ≡ 0 → recordBytes (readSet (writeSet (recordOf plan)) .plan) ≡ recordBytes (unusedZero (recordOf plan))
+record-read-back plan e = ap (λ (a : ReadAnswer). recordBytes (a .plan)) (read-of-written (recordOf plan) e)
