@@ -53,15 +53,16 @@ pub(crate) fn reach(length: usize, start: usize, places: usize) -> usize
     places
 }
 
-// Whether some bytes from an offset on are zero. The loop has no exit, so that it is compiled to vector instructions.
-pub fn are_zero(bytes: &[u8], start: usize, count: usize) -> bool
+// Whether some bytes from an offset on are zero. The loop has no exit, so that it is compiled to vector instructions, and counts in 32 bits,
+// which a small controller has in one register.
+pub fn are_zero(bytes: &[u8], start: usize, count: u32) -> bool
     ensures { λ r. ⌜ r ≡ allTo (isZero (now (bytes .entry)) start) count ⌝ }
 {
-    let within = reach(bytes.len(), start, count);
+    let within = reach(bytes.len(), start, count as usize) as u32;
     let mut clear: bool = true;
-    let mut i: usize = 0;
+    let mut i: u32 = 0;
     while i < within {
-        clear = clear & (bytes[start + i] == 0);
+        clear = clear & (bytes[start + i as usize] == 0);
         i += 1;
     }
     clear

@@ -108,11 +108,11 @@ fn counts_right(s: &[u8]) -> bool
 }
 
 // Where the filler behind some entries of 4 bytes starts.
-fn filler_start(first: usize, count: u8) -> usize
+fn filler_start(first: u32, count: u8) -> u32
     requires { ⌜ first ≤ 510 ⌝ }
     ensures { λ r. ⌜ FillerStart first count r ⌝ }
 {
-    let end = first + 4 * (count as usize);
+    let end = first + 4 * (count as u32);
     if end < 510 { end } else { 510 }
 }
 
@@ -120,7 +120,7 @@ fn plan_filler(s: &[u8]) -> bool
     ensures { λ r. ⌜ r ≡ allTo (fillerAt (now (s .entry))) blockLength ⌝ }
 {
     let start = filler_start(32, byte_at(s, 4));
-    are_zero(s, 5, 1) & are_zero(s, 20, 12) & are_zero(s, start, 510 - start)
+    are_zero(s, 5, 1) & are_zero(s, 20, 12) & are_zero(s, start as usize, 510 - start)
 }
 
 fn message_filler(s: &[u8], b: usize) -> bool
@@ -128,7 +128,7 @@ fn message_filler(s: &[u8], b: usize) -> bool
     ensures { λ r. ⌜ r ≡ allTo (messageFillerAt (now (s .entry)) b) blockLength ⌝ }
 {
     let start = filler_start(8, byte_at(s, BLOCK_LENGTH * b + 4));
-    are_zero(s, BLOCK_LENGTH * b + 5, 3) & are_zero(s, BLOCK_LENGTH * b + start, 510 - start)
+    are_zero(s, BLOCK_LENGTH * b + 5, 3) & are_zero(s, BLOCK_LENGTH * b + start as usize, 510 - start)
 }
 
 fn filler_right(s: &[u8]) -> bool

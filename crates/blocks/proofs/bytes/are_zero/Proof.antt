@@ -19,8 +19,14 @@ abbrev μ-loop : tie.MeasureT-loop
 reach-requires : tie.Need-reach-requires Inv-loop μ-loop
 reach-requires c κs = search needs
 
+cast-within : tie.Need-cast-within Inv-loop μ-loop
+cast-within c = omega (arith, c .reach .ensures .most)
+
 loop-holds : tie.Need-loop-holds Inv-loop μ-loop
 loop-holds c = search (needs, all-none)
+
+cast-clear : tie.Need-cast-clear Inv-loop μ-loop
+cast-clear c = search needs
 
 add-clear : tie.Need-add-clear Inv-loop μ-loop
 add-clear c = omega (arith, c .before .before .reach .ensures .inside (c .before .loop .i) (omega arith))
@@ -52,7 +58,9 @@ are-zero-spec =
     Inv-loop
     μ-loop
     reach-requires
+    cast-within
     loop-holds
+    cast-clear
     add-clear
     shared-slice-read-clear
     add-i

@@ -19,8 +19,14 @@ abbrev μ-loop : tie.MeasureT-loop
 reach-requires : tie.Need-reach-requires Inv-loop μ-loop
 reach-requires c κs = search needs
 
+cast-within : tie.Need-cast-within Inv-loop μ-loop
+cast-within c = omega (arith, c .reach .ensures .most)
+
 loop-holds : tie.Need-loop-holds Inv-loop μ-loop
 loop-holds c = (search needs, omega (arith, c .reach .ensures .most), search (needs, sum-none), search needs)
+
+cast-weighted : tie.Need-cast-weighted Inv-loop μ-loop
+cast-weighted c = search needs
 
 add-weighted : tie.Need-add-weighted Inv-loop μ-loop
 add-weighted c = omega (arith, c .before .before .reach .ensures .inside (c .before .loop .i) (omega arith))
@@ -62,7 +68,9 @@ block-check-spec =
     Inv-loop
     μ-loop
     reach-requires
+    cast-within
     loop-holds
+    cast-weighted
     add-weighted
     shared-slice-read-weighted
     weighted-requires

@@ -10,9 +10,6 @@ use Rattle.blocks.proofs.check.weighted.Tie as tie
 bound : (i b : ℕ) → i < 510 → b < 256 → (i + 1) * b ≤ 510 * 255
 bound i b p q = mul-le-mul {n₁ = i + 1} {m₁ = b} {n₂ = 510} {m₂ = 255} (omega arith) (omega arith)
 
-cast-result : tie.Need-cast-result
-cast-result c = search needs
-
 add-result : tie.Need-add-result
 add-result c = search needs
 
@@ -23,4 +20,4 @@ returns : tie.Need-returns
 returns c = record { value = refl; small = bound (c .args .offset) (c .args .byte) (omega arith) (omega arith) }
 
 pub weighted-spec : {M : Type 1} → statement M
-weighted-spec = tie.close (tie.spec cast-result add-result mul-result returns)
+weighted-spec = tie.close (tie.spec add-result mul-result returns)

@@ -28,6 +28,9 @@ are-zero-requires c κs = search needs
 mul-are-zero-2 : tie.Need-mul-are-zero-2
 mul-are-zero-2 c = search needs
 
+cast-are-zero : tie.Need-cast-are-zero
+cast-are-zero c = search needs
+
 add-are-zero-2 : tie.Need-add-are-zero-2
 add-are-zero-2 c = search needs
 
@@ -52,6 +55,7 @@ message-filler-spec =
     add-are-zero
     are-zero-requires
     mul-are-zero-2
+    cast-are-zero
     add-are-zero-2
     sub-are-zero
     are-zero-requires-2

@@ -16,6 +16,9 @@ are-zero-requires c κs = search needs
 are-zero-requires-2 : tie.Need-are-zero-requires-2
 are-zero-requires-2 c κs = search needs
 
+cast-are-zero : tie.Need-cast-are-zero
+cast-are-zero c = search needs
+
 sub-are-zero : tie.Need-sub-are-zero
 sub-are-zero c = search needs
 
@@ -33,6 +36,7 @@ plan-filler-spec =
     filler-start-requires
     are-zero-requires
     are-zero-requires-2
+    cast-are-zero
     sub-are-zero
     are-zero-requires-3
     returns)
