@@ -105,7 +105,8 @@ fn untouched(reached: bool, node: Node, me: u8, message: Message) -> bool
     !reached | ignores(node, me, message)
 }
 
-// A message reaches those of the first `count` nodes that are in a set; nodes that it leaves as they are, are not copied.
+// A message reaches those of the first `count` nodes that are in a set. A node is read after its test, so that one that the message
+// leaves as it is, is not copied.
 pub(crate) fn reach_all(
     mut nodes: [Node; Plan::NODES],
     count: u8,
@@ -117,11 +118,11 @@ pub(crate) fn reach_all(
 {
     let mut i: u8 = 0;
     while i < count {
-        let node = nodes[i as usize];
-        if untouched(reached[i as usize], node, i, message) {
+        if untouched(reached[i as usize], nodes[i as usize], i, message) {
             i += 1;
             continue;
         }
+        let node = nodes[i as usize];
         nodes[i as usize] = receive(node, i, message);
         i += 1;
     }

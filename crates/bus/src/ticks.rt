@@ -58,7 +58,7 @@ fn rests(node: Node, clock: bool) -> bool
     }
 }
 
-// Nodes that rest, most of them in most ticks, are not copied.
+// A node is read after its test, so that those that rest, most of them in most ticks, are not copied.
 fn tick_nodes(mut nodes: [Node; Plan::NODES], count: u8, times: Times, clock: bool) -> Ticked
     requires { ⌜ count ≤ maxNodes ⌝ }
     ensures { λ r. ⌜ r ≡ tickNodes times clock count nodes ⌝ }
@@ -66,11 +66,11 @@ fn tick_nodes(mut nodes: [Node; Plan::NODES], count: u8, times: Times, clock: bo
     let mut callers = Callers::Nobody;
     let mut i: u8 = 0;
     while i < count {
-        let node = nodes[i as usize];
-        if rests(node, clock) {
+        if rests(nodes[i as usize], clock) {
             i += 1;
             continue;
         }
+        let node = nodes[i as usize];
         let reply = node.tick(times, clock);
         let command = reply.command;
         callers = with_caller(callers, i, command);

@@ -22,20 +22,20 @@ abbrev μ-loop : tie.MeasureT-loop
 loop-holds : tie.Need-loop-holds Inv-loop μ-loop
 loop-holds c = (search needs, search needs, search needs, search needs, refl)
 
-cast-node : tie.Need-cast-node Inv-loop μ-loop
-cast-node c = search needs
-
-mul-node : tie.Need-mul-node Inv-loop μ-loop
-mul-node c = search needs
-
-array-copy-out-node : tie.Need-array-copy-out-node Inv-loop μ-loop
-array-copy-out-node c = search needs
-
 cast-untouched : tie.Need-cast-untouched Inv-loop μ-loop
 cast-untouched c = search needs
 
 array-read-untouched : tie.Need-array-read-untouched Inv-loop μ-loop
 array-read-untouched c = search needs
+
+cast-untouched-2 : tie.Need-cast-untouched-2 Inv-loop μ-loop
+cast-untouched-2 c = search needs
+
+mul-untouched : tie.Need-mul-untouched Inv-loop μ-loop
+mul-untouched c = search needs
+
+array-copy-out-untouched : tie.Need-array-copy-out-untouched Inv-loop μ-loop
+array-copy-out-untouched c = search needs
 
 untouched-requires : tie.Need-untouched-requires Inv-loop μ-loop
 untouched-requires c κs = search needs
@@ -53,6 +53,15 @@ loop-again c =
     let node = getD (at .nodes) (at .i) noNode in
     let still = untouched-still (getD (a .t3) (at .i) false) (a .message) (at .i) node (sym (c .before .untouched .ensures) ∙ c .if1 .taken) in
     (omega arith, omega arith, at .inv .2, at .inv .3, sym (set-getD (at .nodes) (at .i) noNode) ∙ each-more _ _ _ _ node noNode (at .inv .4) (sym still))
+
+cast-node : tie.Need-cast-node Inv-loop μ-loop
+cast-node c = search needs
+
+mul-node : tie.Need-mul-node Inv-loop μ-loop
+mul-node c = search needs
+
+array-copy-out-node : tie.Need-array-copy-out-node Inv-loop μ-loop
+array-copy-out-node c = search needs
 
 receive-requires : tie.Need-receive-requires Inv-loop μ-loop
 receive-requires c κs = search needs
@@ -74,10 +83,10 @@ loop-less-2 c = search needs
 
 loop-again-2 : tie.Need-loop-again-2 Inv-loop μ-loop
 loop-again-2 c =
-    let at = c .before .before .before .before .before .loop in
-    let a = c .before .before .before .before .before .before .args in
+    let at = c .before .before .before .before .before .before .loop in
+    let a = c .before .before .before .before .before .before .before .args in
     let node = getD (at .nodes) (at .i) noNode in
-    let touched = touched-receives (getD (a .t3) (at .i) false) (a .message) (at .i) node (sym (c .before .before .untouched .ensures) ∙ c .before .if1 .left) in
+    let touched = touched-receives (getD (a .t3) (at .i) false) (a .message) (at .i) node (sym (c .before .before .before .untouched .ensures) ∙ c .before .before .if1 .left) in
     (omega arith, omega arith, at .inv .2, at .inv .3, each-more _ _ _ _ _ noNode (at .inv .4) (c .receive .ensures ∙ sym touched))
 
 returns : tie.Need-returns Inv-loop μ-loop
@@ -94,15 +103,18 @@ reach-all-spec =
     Inv-loop
     μ-loop
     loop-holds
-    cast-node
-    mul-node
-    array-copy-out-node
     cast-untouched
     array-read-untouched
+    cast-untouched-2
+    mul-untouched
+    array-copy-out-untouched
     untouched-requires
     add-i
     loop-less
     loop-again
+    cast-node
+    mul-node
+    array-copy-out-node
     receive-requires
     cast-nodes
     mul-nodes

@@ -26,14 +26,14 @@ abbrev μ-loop : tie.MeasureT-loop
 loop-holds : tie.Need-loop-holds Inv-loop μ-loop
 loop-holds c = (search needs, search needs, search needs, refl, refl)
 
-cast-node : tie.Need-cast-node Inv-loop μ-loop
-cast-node c = search needs
+cast-rests : tie.Need-cast-rests Inv-loop μ-loop
+cast-rests c = search needs
 
-mul-node : tie.Need-mul-node Inv-loop μ-loop
-mul-node c = search needs
+mul-rests : tie.Need-mul-rests Inv-loop μ-loop
+mul-rests c = search needs
 
-array-copy-out-node : tie.Need-array-copy-out-node Inv-loop μ-loop
-array-copy-out-node c = search needs
+array-copy-out-rests : tie.Need-array-copy-out-rests Inv-loop μ-loop
+array-copy-out-rests c = search needs
 
 rests-requires : tie.Need-rests-requires Inv-loop μ-loop
 rests-requires c κs = search needs
@@ -58,6 +58,15 @@ loop-again c =
       callers-more (λ k. tickStep (a .times) (a .clock) (nodeAt (a .t1) k) .command) (at .i) (at .callers) (at .callers) Command.Nothing (at .inv .4) (ap (λ (r : Reply). r .command) still ∙ ap (λ (n : Node). tickStep (a .times) (a .clock) n .command) same) refl,
     )
 
+cast-node : tie.Need-cast-node Inv-loop μ-loop
+cast-node c = search needs
+
+mul-node : tie.Need-mul-node Inv-loop μ-loop
+mul-node c = search needs
+
+array-copy-out-node : tie.Need-array-copy-out-node Inv-loop μ-loop
+array-copy-out-node c = search needs
+
 tick-requires : tie.Need-tick-requires Inv-loop μ-loop
 tick-requires c κs = search needs
 
@@ -81,8 +90,8 @@ loop-less-2 c = search needs
 
 loop-again-2 : tie.Need-loop-again-2 Inv-loop μ-loop
 loop-again-2 c =
-    let at = c .before .before .before .before .before .before .before .loop in
-    let a = c .before .before .before .before .before .before .before .before .args in
+    let at = c .before .before .before .before .before .before .before .before .loop in
+    let a = c .before .before .before .before .before .before .before .before .before .args in
     let told = c .before .before .tick .ensures in
     let same = each-next _ (a .t1) (at .nodes) (at .i) noNode (at .inv .3) in (
       omega arith,
@@ -106,13 +115,16 @@ tick-nodes-spec =
     Inv-loop
     μ-loop
     loop-holds
-    cast-node
-    mul-node
-    array-copy-out-node
+    cast-rests
+    mul-rests
+    array-copy-out-rests
     rests-requires
     add-i
     loop-less
     loop-again
+    cast-node
+    mul-node
+    array-copy-out-node
     tick-requires
     with-caller-requires
     cast-nodes
