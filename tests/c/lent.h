@@ -7,7 +7,12 @@
 #include <stdint.h>
 #include <string.h>
 
-enum { LENT_GUARD = 32, LENT_ROOM = 2112, LENT_PAINT = 0xA5 };
+/* With an odd number of guard bytes every buffer is at an odd address. */
+#ifndef LENT_GUARD
+#define LENT_GUARD 32
+#endif
+
+enum { LENT_ROOM = 2112, LENT_PAINT = 0xA5 };
 
 typedef struct {
     size_t length;
