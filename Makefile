@@ -1,5 +1,5 @@
 # rt proves and builds what has changed; rt ci starts from nothing and gives the verdict.
-.PHONY: run show replay test bench cases
+.PHONY: run show replay test bench firmware cases
 
 # Document 01's drill: its twelve moves on set T.
 run:
@@ -28,6 +28,11 @@ test:
 # The calls and the drill against straightforward C on the same inputs.
 bench:
 	sh tests/c/bench.sh
+
+# The C calls for controllers: an archive for each and both variants, in target/firmware.
+firmware:
+	@sh firmware/module.sh
+	@sh firmware/archives.sh
 
 # Makes the test sets, the machines' cases, the lists of moves, the recorded moves, the drill's scripts and what must be printed of them
 # anew, from document 01 (needs python3).
