@@ -1,7 +1,7 @@
 #!/bin/sh
 # Builds the archive and runs the C tests against it: each export under sanitizers, the comparison with the independent implementation,
-# the header and the symbols, the firmware example; and the drill and the replay of recorded moves against independent ones. By gcc, and by
-# clang where it is present.
+# the header and the symbols, the firmware example; the drill and the replay of recorded moves against independent ones; and the archives
+# for controllers. By gcc, and by clang where it is present.
 set -eu
 cd "$(dirname "$0")/../.."
 out=target/c
@@ -18,9 +18,9 @@ last_line() {
 }
 
 mkdir -p $out
-# Proves nothing again after rt ci, but for cxpi, which is proved with its archive.
+# Proves nothing again after rt ci, but for cxpi, which is proved with its archive; its module is kept for the controllers.
 rt check drill replay replay_states > $out/log 2>&1 || { cat $out/log; exit 1; }
-rt staticlib cxpi > $out/log 2>&1 || { cat $out/log; exit 1; }
+sh firmware/module.sh
 sh tests/c/symbols.sh $archive include/cxpi.h
 
 echo 'int main(void) { return 0; }' > $out/probe.c
@@ -66,3 +66,6 @@ sh $independent/check_replay.sh
 python3 $independent/check_replay.py target/bin/replay target/bin/replay_states
 (cd examples/recording && ../../target/bin/replay < moves | cmp - stdout)
 sh $independent/compare_moves.sh target/bin/replay target/bin/replay_states
+
+# The same calls for controllers.
+sh tests/firmware/run.sh
