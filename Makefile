@@ -25,9 +25,10 @@ test:
 	@sh tests/gate/check.sh
 	@sh tests/gate/run.sh rt tests/c/run.sh
 
-# The calls and the drill against straightforward C on the same inputs.
+# The calls and the drill against straightforward C on the same inputs; then the calls on emulated controllers, where the emulator is there.
 bench:
 	sh tests/c/bench.sh
+	sh tests/firmware/measure.sh
 
 # The C calls for controllers: an archive for each and both variants, in target/firmware.
 firmware:

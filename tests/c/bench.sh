@@ -8,6 +8,9 @@ independent=tests/independent
 flags="-std=c11 -Wall -Wextra -Werror -pedantic -Iinclude -I$independent"
 mkdir -p $out
 rt staticlib cxpi > $out/log 2>&1 || { cat $out/log; exit 1; }
+cp target/staticlib/libcxpi.a $out/plain.a
+sh firmware/module.sh
+cmp target/staticlib/libcxpi.a $out/plain.a
 rt check drill > $out/log 2>&1 || { cat $out/log; exit 1; }
 
 # The benchmark's program over C by a compiler: bench_by COMPILER OPTIMISATION.
