@@ -6,7 +6,7 @@ set -eu
 cd "$(dirname "$0")/../.."
 . firmware/targets.sh
 . tests/firmware/boards.sh
-stack_bound=1900 # bytes that a call may take on a controller
+stack_bound=1600 # bytes that a call may take on a controller
 out=target/firmware
 independent=tests/independent
 reference="$independent/reference_packed.c $independent/reference.c"
