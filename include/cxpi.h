@@ -1,11 +1,35 @@
 /* CXPI network management for C firmware: release sets, the master machine and the node machine.
  *
- * Every call takes any bytes of any length, ends, and answers by document 01's refusal numbers. A buffer passes as a pointer, which is
- * not null, and its length in bytes; the buffers of one call do not overlap. Nothing is kept between calls, so a call may be made
- * from several tasks at once on buffers of their own. Numbers of more than one byte are big-endian. docs/LAYOUTS.md has the same tables.
+ * A release set is read into a plan record. A unit keeps the packed state of the master, or of its node, and steps it by each event: a
+ * tick of 1 ms, a message, a wish of its application. A step leaves the next state, and a reply that says what the unit is to do.
+ * Numbers of more than one byte are big-endian, and a flag is 0 or 1. Names in _AT are offsets, names in _LENGTH lengths in bytes.
  *
- * A refused call returns the refusal's number and leaves every lent byte as it was; only CXPI_DAMAGED and CXPI_WRONG_LENGTH change the
- * master's state, as document 01 says. */
+ * Calls. A call takes any bytes of any length, ends, and returns one refusal number and nothing else: CXPI_DONE where it did what it
+ * was asked. (cxpi_version returns the version.) A buffer passes as a pointer, which is not null, and its length; the buffers of one
+ * call do not overlap. Nothing is kept between calls, so calls may be made from several tasks at once on buffers of their own.
+ *
+ * Order. A call returns the first of its numbers that applies:
+ *
+ *   cxpi_read         1 to 9 of the set, each over all blocks; 10 for the plan buffer
+ *   cxpi_write        4 to 8 of the plan record; 10 for the set buffer
+ *   cxpi_*_power_on   10 for the state buffer
+ *   cxpi_*_step       4 to 8 of the plan record; 10 for the reply buffer; 11; 15; 16; the rest by number: 12, 13, 14, 17 to 21
+ *
+ * A plan record of another length than CXPI_PLAN_LENGTH is taken for the all-zero record, which is 4. A state of another length is 11,
+ * an event of another length 15. A buffer that is to be written may be longer than what is written.
+ *
+ * What a refusal leaves. Nothing of before can be taken for a result:
+ *
+ *   cxpi_read         after 1 to 9 the all-zero record, which the other calls refuse; after 10 the plan buffer as it was
+ *   cxpi_write        length 0, and the set buffer as it was
+ *   cxpi_*_power_on   the state buffer as it was
+ *   cxpi_*_step       in the reply zeros, which are no command and none lost, but for the node that 20 names; the state as it was, but
+ *                     that 13 and 14 change the master's
+ *
+ * A buffer that is too short is never written, and bytes past what is written stay in every call.
+ *
+ * Memory. The caller lends every byte: there is no heap and no data. memcpy and memset of the C library are needed.
+ * Stack: a call takes at most 1,900 bytes on a controller, memcpy and memset aside; origin.txt beside an archive has each call's. */
 #ifndef CXPI_H
 #define CXPI_H
 
@@ -16,151 +40,194 @@
 extern "C" {
 #endif
 
-/* Lengths in bytes. */
-#define CXPI_SET_LENGTH_ONE 1024 /* a set of up to 100 rows */
-#define CXPI_SET_LENGTH_TWO 1536 /* a set of more */
-#define CXPI_PLAN_LENGTH 591
-#define CXPI_MASTER_LENGTH 185
-#define CXPI_NODE_LENGTH 143
-#define CXPI_MASTER_ANSWER_LENGTH 2
-#define CXPI_NODE_ANSWER_LENGTH 4
+/* The version of calls and layouts, which each change of either raises. A host compares the archive's with its header's at start. */
+#define CXPI_VERSION 1
 
-/* Refusal numbers, 0 for none. */
+uint32_t cxpi_version(void);
+
+/* Refusal numbers. */
 #define CXPI_DONE 0
-#define CXPI_WRONG_SIZE 1        /* of a set: not 1,024 or 1,536; of a plan record: not CXPI_PLAN_LENGTH */
-#define CXPI_WRONG_CHECK 2       /* a block's check differs */
-#define CXPI_WRONG_BLOCK 3       /* wrong byte 0 or 1 of a block */
-#define CXPI_WRONG_REVISION 4    /* revision 0, or blocks differ in it */
-#define CXPI_WRONG_TIME 5        /* a time breaks its rule */
-#define CXPI_WRONG_NODE 6        /* N or a node entry breaks its rule */
-#define CXPI_WRONG_ROW 7         /* row count or a row breaks its rule */
-#define CXPI_NO_ROW_OF_NODE 8    /* a node publishes nothing */
-#define CXPI_FILLER 9            /* filler not zero */
-#define CXPI_BUFFER_SHORT 10     /* buffer too short for what is to be written */
-#define CXPI_NO_STATE 11         /* bytes that are no state, a state out of range, or a node number not below N */
-#define CXPI_NO_REQID 12         /* ReqId not in the plan; a master's row in an answer; another's row in an ask to send */
-#define CXPI_DAMAGED 13          /* answer's result is not 0 */
-#define CXPI_WRONG_LENGTH 14     /* answer's length is not the row's */
-#define CXPI_NO_EVENT 15         /* bytes that are no event, a count above 3 or a ReqId above 127 */
-#define CXPI_NEEDS_NORMAL 16     /* event needs Normal */
-#define CXPI_NO_RESULT_DUE 17    /* no send result awaited */
-#define CXPI_UNDER_WAY 18        /* sleep message already under way */
-#define CXPI_NOT_PERMITTED 19    /* master's own permission is no */
-#define CXPI_NOT_HELD 20         /* a node's permission is not held; CXPI_NODE_NAMED has the lowest such node */
-#define CXPI_NOT_ASKED 21        /* polled node not yet asked */
+#define CXPI_WRONG_SIZE 1     /* the set's length is not 1,024 or 1,536 */
+#define CXPI_WRONG_CHECK 2    /* a block's check differs */
+#define CXPI_WRONG_BLOCK 3    /* wrong byte 0 or 1 of a block */
+#define CXPI_WRONG_REVISION 4 /* revision 0, or blocks differ in it */
+#define CXPI_WRONG_TIME 5     /* a time breaks its rule */
+#define CXPI_WRONG_NODE 6     /* N or a node entry breaks its rule */
+#define CXPI_WRONG_ROW 7      /* row count or a row breaks its rule */
+#define CXPI_NO_ROW_OF_NODE 8 /* a node publishes nothing */
+#define CXPI_FILLER 9         /* filler not zero */
+#define CXPI_BUFFER_SHORT 10  /* buffer too short for what is to be written */
+#define CXPI_NO_STATE 11      /* bytes that are no state, a state out of range, or a node number not below N */
+#define CXPI_NO_REQID 12      /* ReqId not in the plan; a master's row in an answer; another's row in an ask to send */
+#define CXPI_DAMAGED 13       /* answer's result is not 0; the master lets its publisher's permission go and calls back */
+#define CXPI_WRONG_LENGTH 14  /* answer's length is not the row's; the same */
+#define CXPI_NO_EVENT 15      /* bytes that are no event, a count above 3 or a ReqId above 127 */
+#define CXPI_NEEDS_NORMAL 16  /* event needs Normal */
+#define CXPI_NO_RESULT_DUE 17 /* no send result awaited */
+#define CXPI_UNDER_WAY 18     /* sleep message already under way */
+#define CXPI_NOT_PERMITTED 19 /* master's own permission is no */
+#define CXPI_NOT_HELD 20      /* a node's permission is not held; CXPI_MASTER_REPLY_NODE_AT has the lowest such node */
+#define CXPI_NOT_ASKED 21     /* polled node not yet asked */
 
-/* The parts of what a step returns. */
-#define CXPI_REFUSAL(result) ((result) & 0xffu)
-#define CXPI_NODE_NAMED(result) ((result) >> 8)
+/* Most of what there can be. */
+#define CXPI_MOST_NODES 16
+#define CXPI_MOST_ROWS 127
+#define CXPI_REQIDS 128 /* 0 to 127; rows have those from 1 on */
 
-/* The states of a master or a node. */
+/* A release set: up to 100 rows, or more. */
+#define CXPI_SET_LENGTH_ONE 1024
+#define CXPI_SET_LENGTH_TWO 1536
+
+/* A plan record. Entries from N on and rows past the count are unused: cxpi_read leaves zeros there, and every call ignores them. */
+#define CXPI_PLAN_LENGTH 591
+#define CXPI_PLAN_REVISION_AT 0     /* two bytes: 1 to 65,535 */
+#define CXPI_PLAN_NODE_COUNT_AT 2   /* N, the number of nodes: 1 to CXPI_MOST_NODES */
+#define CXPI_PLAN_ROW_COUNT_AT 3    /* two bytes: 1 to CXPI_MOST_ROWS */
+/* Seven times of two bytes, in ticks, each 1 to 30,000, and S at least D: */
+#define CXPI_PLAN_WINDOW_AT 5       /* W, how long the master holds a node's permission */
+#define CXPI_PLAN_CLOCK_STOP_AT 7   /* D, from the sleep message to the clock's stop */
+#define CXPI_PLAN_NODE_SLEEP_AT 9   /* S, from the sleep message to a node's sleep */
+#define CXPI_PLAN_QUIET_LIMIT_AT 11 /* E, without clock until a node shows its network error */
+#define CXPI_PLAN_RECOVERY_AT 13    /* R, wake-up recovery: a caller's second pulse comes after R, its network error after 2R */
+#define CXPI_PLAN_SPACE_AT 15       /* P, wake-up space: without clock until a node in Standby that did not call sleeps */
+#define CXPI_PLAN_CLOCK_START_AT 17 /* C, from a wake-up to the clock's start */
+#define CXPI_PLAN_ENTRIES_AT 19     /* CXPI_MOST_NODES node entries, by node number */
+#define CXPI_PLAN_ROWS_AT 83        /* CXPI_MOST_ROWS rows, ReqIds rising */
+
+/* A node entry. */
+#define CXPI_ENTRY_LENGTH 4
+#define CXPI_ENTRY_ADDRESS_AT 0 /* 1 to 125, all different */
+#define CXPI_ENTRY_CLASS_AT 1   /* diagnostic class: 1 to 3 */
+#define CXPI_ENTRY_METHOD_AT 2  /* CXPI_EVENT_TRIGGERED or CXPI_POLLED */
+#define CXPI_ENTRY_ZERO_AT 3    /* 0 */
+#define CXPI_EVENT_TRIGGERED 0
+#define CXPI_POLLED 1
+
+/* A row. Each node publishes one at least. */
+#define CXPI_ROW_LENGTH 4
+#define CXPI_ROW_REQID_AT 0       /* 1 to 127 */
+#define CXPI_ROW_PUBLISHER_AT 1   /* a node number below N, or CXPI_MASTER_PUBLISHES */
+#define CXPI_ROW_DATA_LENGTH_AT 2 /* 0 to 255 */
+#define CXPI_ROW_COUNTED_AT 3     /* 1 if it carries a sequence count, else 0 */
+#define CXPI_MASTER_PUBLISHES 255
+
+/* Reads a set into a plan record. */
+uint32_t cxpi_read(const uint8_t *set, size_t set_length, uint8_t *plan, size_t plan_length);
+
+/* Writes the set of a plan record; length is the set's, CXPI_SET_LENGTH_ONE or CXPI_SET_LENGTH_TWO. */
+uint32_t cxpi_write(const uint8_t *plan, size_t plan_length, uint8_t *set, size_t set_length, uint16_t *length);
+
+/* The states of a master and of a node. */
 #define CXPI_NORMAL 0
 #define CXPI_STANDBY 1
 #define CXPI_SLEEP 2
 
-/* The phases of a master. */
+/* The phases of a master in Normal; in any other state it is CXPI_OPEN. What speaks against sleep calls back: Sending becomes
+ * Withdrawn, and Closing becomes Open. */
 #define CXPI_OPEN 0
-#define CXPI_SENDING 1
-#define CXPI_WITHDRAWN 2
-#define CXPI_CLOSING 3
+#define CXPI_SENDING 1   /* the sleep message is under way */
+#define CXPI_WITHDRAWN 2 /* it was called back, its result is awaited */
+#define CXPI_CLOSING 3   /* it was sent, the clock is about to stop */
 
-/* Reads a set into a plan record.
- *
- *   0-1    revision
- *   2      N, the number of nodes
- *   3-4    number of rows
- *   5-18   times W, D, S, E, R, P, C in ticks, two bytes each
- *   19-82  sixteen node entries: address, diagnostic class, method, 0
- *   83-590 127 rows: ReqId, publisher, length, 1 if with a sequence count
- *
- * Unused entries and rows are zero. Returns 0, or the first of CXPI_WRONG_SIZE to CXPI_FILLER (1 to 9), then CXPI_BUFFER_SHORT (10, a
- * plan buffer of less than CXPI_PLAN_LENGTH). Bytes past the record stay as they were. */
-uint32_t cxpi_read(const uint8_t *set, size_t set_length, uint8_t *plan, size_t plan_length);
+/* A master's state. A state is in range where each field is within its limit, by the plan's N and times. */
+#define CXPI_MASTER_LENGTH 185
+#define CXPI_MASTER_STATE_AT 0      /* the clock is on exactly in CXPI_NORMAL */
+#define CXPI_MASTER_PHASE_AT 1
+#define CXPI_MASTER_PERMISSION_AT 2 /* its own permission to sleep: 0 or 1 */
+#define CXPI_MASTER_DELAY_AT 3      /* two bytes: ticks in Standby, below C, or in Closing, below D; else 0 */
+#define CXPI_MASTER_TICKS_AT 5      /* four bytes: tick number, any; it returns to 0 after 4,294,967,295 */
+#define CXPI_MASTER_HOLDS_AT 9      /* CXPI_MOST_NODES permissions, by node number */
+#define CXPI_MASTER_COUNTS_AT 57    /* CXPI_REQIDS bytes: last sequence count of each ReqId, 0 to 3, or CXPI_NO_COUNT */
+#define CXPI_NO_COUNT 4
 
-/* Writes the set of a plan record; unused entries and rows are ignored. Returns the set's length, CXPI_SET_LENGTH_ONE or
- * CXPI_SET_LENGTH_TWO, or the first of CXPI_WRONG_SIZE (1), 4 to 8 and CXPI_BUFFER_SHORT (10). Bytes past the set stay as they were. */
-uint32_t cxpi_write(const uint8_t *plan, size_t plan_length, uint8_t *set, size_t set_length);
+/* A node's permission as the master has it. */
+#define CXPI_HOLD_LENGTH 3
+#define CXPI_HOLD_HELD_AT 0 /* 1 if it is held, else 0; 0 from N on */
+#define CXPI_HOLD_AGE_AT 1  /* two bytes: ticks since the answer that gave it, 0 to W; 0 where it is not held */
 
-/* The master at power-on.
- *
- *   0      state: CXPI_NORMAL, CXPI_STANDBY or CXPI_SLEEP
- *   1      phase: CXPI_OPEN, CXPI_SENDING, CXPI_WITHDRAWN or CXPI_CLOSING
- *   2      own permission, 0 or 1
- *   3-4    delay, ticks in Standby or in Closing
- *   5-8    tick number
- *   9-56   for each of sixteen nodes: 1 if its permission is held, else 0; the permission's age, two bytes
- *   57-184 last sequence count of each ReqId, 0 to 127, or 4 for none
- *
- * Returns 0, or CXPI_BUFFER_SHORT (10, less than CXPI_MASTER_LENGTH). Bytes past the state stay as they were. */
+/* The master at power-on: Sleep, its own permission no, nothing held, no counts, all else 0. */
 uint32_t cxpi_master_power_on(uint8_t *state, size_t state_length);
 
-/* A node at power-on.
- *
- *   0      state: CXPI_NORMAL, CXPI_STANDBY or CXPI_SLEEP
- *   1      permission, 0 or 1
- *   2      network error, 0 or 1
- *   3      wake bit, 0 or 1
- *   4      heard, 0 or 1
- *   5      caller, 0 or 1
- *   6-7    quiet count
- *   8      1 while a sleep delay runs, else 0
- *   9-10   its ticks, 0 where none runs
- *   11-14  standby count
- *   15-142 next sequence count of each ReqId, 0 to 127
- *
- * Returns 0, or CXPI_BUFFER_SHORT (10, less than CXPI_NODE_LENGTH). Bytes past the state stay as they were. */
-uint32_t cxpi_node_power_on(uint8_t *state, size_t state_length);
+/* The events of a master: byte 0 is the kind, then what the event has. */
+#define CXPI_MASTER_TICK 0        /* 1 byte: 1 ms is over; none may be left out */
+#define CXPI_MASTER_ANSWER 1      /* 9 bytes: an answer came, whole or damaged (needs Normal) */
+#define CXPI_MASTER_PULSE 2       /* 1 byte: a wake-up pulse was heard */
+#define CXPI_MASTER_WAKE 3        /* 1 byte: its application asks to wake */
+#define CXPI_MASTER_PERMISSION 4  /* 2 bytes: its application permits sleep, 1, or forbids it, 0 */
+#define CXPI_MASTER_SLEEP 5       /* 1 byte: its application asks for the sleep message (needs Normal) */
+#define CXPI_MASTER_SEND_RESULT 6 /* 2 bytes: the sleep message was sent, 1, or failed, 0 (needs Normal) */
 
-/* The events of a master: the first byte, then what the event has. */
-#define CXPI_MASTER_TICK 0
-#define CXPI_MASTER_ANSWER 1      /* ReqId; result, two bytes; length, two bytes; count; permission bit; wake bit: 9 bytes in all */
-#define CXPI_MASTER_PULSE 2
-#define CXPI_MASTER_WAKE 3        /* own ask to wake */
-#define CXPI_MASTER_PERMISSION 4  /* own permission, 0 or 1 */
-#define CXPI_MASTER_SLEEP 5       /* own ask to send the sleep message */
-#define CXPI_MASTER_SEND_RESULT 6 /* 1 sent, 0 failed */
+/* The lengths of events, a master's or a node's, and where the value of an event of two bytes is. */
+#define CXPI_PLAIN_EVENT_LENGTH 1
+#define CXPI_VALUE_EVENT_LENGTH 2
+#define CXPI_ANSWER_EVENT_LENGTH 9
+#define CXPI_EVENT_VALUE_AT 1
 
-/* What a master is to do. */
+/* The event of an answer. */
+#define CXPI_ANSWER_REQID_AT 1       /* 0 to 127 */
+#define CXPI_ANSWER_RESULT_AT 2      /* two bytes: 0 if the answer came whole, any other number if not */
+#define CXPI_ANSWER_DATA_LENGTH_AT 4 /* two bytes */
+#define CXPI_ANSWER_COUNT_AT 6       /* sequence count, 0 to 3; ignored where the row carries none */
+#define CXPI_ANSWER_PERMISSION_AT 7  /* permission bit, 0 or 1 */
+#define CXPI_ANSWER_WAKE_AT 8        /* wake bit, 0 or 1 */
+
+/* The reply of a master's step. */
+#define CXPI_MASTER_REPLY_LENGTH 3
+#define CXPI_MASTER_REPLY_COMMAND_AT 0
+#define CXPI_MASTER_REPLY_LOST_AT 1 /* answers lost before this one, 0 to 3 */
+#define CXPI_MASTER_REPLY_NODE_AT 2 /* the node that CXPI_NOT_HELD names, 0 with every other number */
+
+/* What a master commands. */
 #define CXPI_MASTER_NOTHING 0
 #define CXPI_CLOCK_ON 1
 #define CXPI_CLOCK_OFF 2
-#define CXPI_SEND_SLEEP_MESSAGE 3
+#define CXPI_SEND_SLEEP_MESSAGE 3 /* its result follows as CXPI_MASTER_SEND_RESULT, also after a call-back */
 
-/* A step of the master under a plan. Where it is done, state holds the next state and answer
- *
- *   0      what to do
- *   1      answers lost before this one, 0 to 3
- *
- * and bytes past these stay as they were. Judged in this order: CXPI_WRONG_SIZE (1) of the plan record; 4 to 8; CXPI_BUFFER_SHORT (10,
- * an answer buffer of less than CXPI_MASTER_ANSWER_LENGTH); CXPI_NO_STATE (11; a state has CXPI_MASTER_LENGTH bytes); CXPI_NO_EVENT (15);
- * CXPI_NEEDS_NORMAL (16); then 12 to 14 and 17 to 20 by number. */
+/* A step of the master under a plan. */
 uint32_t cxpi_master_step(const uint8_t *plan, size_t plan_length, uint8_t *state, size_t state_length, const uint8_t *event,
-                          size_t event_length, uint8_t *answer, size_t answer_length);
+                          size_t event_length, uint8_t *reply, size_t reply_length);
 
-/* The events of a node: the first byte, then what the event has. */
-#define CXPI_NODE_TICK 0          /* 1 with clock, 0 without */
-#define CXPI_NODE_PULSE 1         /* heard */
-#define CXPI_NODE_WAKE 2          /* own ask to wake */
-#define CXPI_NODE_PERMISSION 3    /* 0 or 1 */
-#define CXPI_NODE_SLEEP_MESSAGE 4
-#define CXPI_NODE_REQUEST 5       /* ReqId */
-#define CXPI_NODE_SEND 6          /* ReqId: own ask to send */
+/* A node's state. A state is in range where each field is within its limit, by the plan's times. */
+#define CXPI_NODE_LENGTH 143
+#define CXPI_NODE_STATE_AT 0
+#define CXPI_NODE_PERMISSION_AT 1  /* its permission to sleep: 0 or 1 */
+#define CXPI_NODE_ERROR_AT 2       /* network error: 0 or 1 */
+#define CXPI_NODE_WAKE_AT 3        /* wake bit, which its next answer carries: 0 or 1 */
+#define CXPI_NODE_HEARD_AT 4       /* a request was heard: 0 or 1 */
+#define CXPI_NODE_CALLER_AT 5      /* in Standby, whether it called: 0 or 1; else 0 */
+#define CXPI_NODE_QUIET_AT 6       /* two bytes: quiet count, 0 to E */
+#define CXPI_NODE_DELAY_AT 8       /* 1 while a sleep delay runs, else 0 */
+#define CXPI_NODE_DELAY_TICKS_AT 9 /* two bytes: its ticks, below S; 0 where none runs */
+#define CXPI_NODE_STANDBY_AT 11    /* four bytes: standby count, 0 to 2R for a caller, below P for another; 0 outside Standby */
+#define CXPI_NODE_COUNTS_AT 15     /* CXPI_REQIDS bytes: next sequence count of each ReqId, 0 to 3 */
 
-/* What a node is to do. */
+/* A node at power-on: Sleep, its permission no, all else 0. */
+uint32_t cxpi_node_power_on(uint8_t *state, size_t state_length);
+
+/* The events of a node: byte 0 is the kind, then what the event has. */
+#define CXPI_NODE_TICK 0          /* 2 bytes: 1 ms is over, with clock, 1, or without, 0 */
+#define CXPI_NODE_PULSE 1         /* 1 byte: a wake-up pulse was heard */
+#define CXPI_NODE_WAKE 2          /* 1 byte: its application asks to wake */
+#define CXPI_NODE_PERMISSION 3    /* 2 bytes: its application permits sleep, 1, or forbids it, 0 */
+#define CXPI_NODE_SLEEP_MESSAGE 4 /* 1 byte: the sleep message came (needs Normal) */
+#define CXPI_NODE_REQUEST 5       /* 2 bytes: a request came, ReqId 0 to 127 (needs Normal) */
+#define CXPI_NODE_SEND 6          /* 2 bytes: its application asks to send, ReqId 0 to 127 (needs Normal) */
+
+/* The reply of a node's step. */
+#define CXPI_NODE_REPLY_LENGTH 4
+#define CXPI_NODE_REPLY_COMMAND_AT 0
+#define CXPI_NODE_REPLY_PERMISSION_AT 1 /* with CXPI_SEND_ANSWER its permission bit, else 0 */
+#define CXPI_NODE_REPLY_WAKE_AT 2       /* likewise its wake bit */
+#define CXPI_NODE_REPLY_COUNT_AT 3      /* likewise its sequence count, 0 to 3 */
+
+/* What a node commands. */
 #define CXPI_NODE_NOTHING 0
-#define CXPI_SEND_PULSE 1
-#define CXPI_SEND_ANSWER 2
+#define CXPI_SEND_PULSE 1  /* a wake-up pulse */
+#define CXPI_SEND_ANSWER 2 /* to the ReqId of the event */
 
-/* A step of a node under a plan. Where it is done, state holds the next state and answer
- *
- *   0      what to do
- *   1      permission bit, 2 wake bit, 3 sequence count of an answer, else 0
- *
- * and bytes past these stay as they were. Judged in this order: CXPI_WRONG_SIZE (1) of the plan record; 4 to 8; CXPI_BUFFER_SHORT (10,
- * an answer buffer of less than CXPI_NODE_ANSWER_LENGTH); CXPI_NO_STATE (11; a state has CXPI_NODE_LENGTH bytes); CXPI_NO_EVENT (15);
- * CXPI_NEEDS_NORMAL (16); then 12 and 21. */
-uint32_t cxpi_node_step(const uint8_t *plan, size_t plan_length, uint8_t node, uint8_t *state, size_t state_length, const uint8_t *event,
-                        size_t event_length, uint8_t *answer, size_t answer_length);
+/* A step of the node of that number, 0 to N - 1, under a plan. */
+uint32_t cxpi_node_step(const uint8_t *plan, size_t plan_length, uint8_t node, uint8_t *state, size_t state_length,
+                        const uint8_t *event, size_t event_length, uint8_t *reply, size_t reply_length);
 
 #ifdef __cplusplus
 }

@@ -6,11 +6,8 @@
 #include <signal.h>
 #include <stdbool.h>
 #include <stdio.h>
-#include <string.h>
 
 #include "cxpi.h"
-
-enum { MOST_NODES = 16, MASTER_PUBLISHER = 255 };
 
 /* Set T of document 01 as it would stand in flash. */
 static const uint8_t set_in_flash[CXPI_SET_LENGTH_ONE] = {
@@ -26,38 +23,35 @@ static const uint8_t set_in_flash[CXPI_SET_LENGTH_ONE] = {
 /* All that the host keeps: the plan record and the packed states. */
 static uint8_t plan[CXPI_PLAN_LENGTH];
 static uint8_t master[CXPI_MASTER_LENGTH];
-static uint8_t nodes[MOST_NODES][CXPI_NODE_LENGTH];
+static uint8_t nodes[CXPI_MOST_NODES][CXPI_NODE_LENGTH];
 static bool clock_runs;
 static volatile sig_atomic_t tick_due;
 
 static unsigned node_count(void) {
-    return plan[2];
+    return plan[CXPI_PLAN_NODE_COUNT_AT];
 }
 
-/* The row of a ReqId in the plan record: ReqId, publisher, length, counted. */
+/* The row of a ReqId in the plan record, or null. */
 static const uint8_t *find_row(uint8_t reqid) {
-    unsigned rows = (unsigned)plan[3] << 8 | plan[4];
+    unsigned rows = (unsigned)plan[CXPI_PLAN_ROW_COUNT_AT] << 8 | plan[CXPI_PLAN_ROW_COUNT_AT + 1];
     for (unsigned row = 0; row < rows; row++) {
-        const uint8_t *bytes = &plan[83 + 4 * row];
-        if (bytes[0] == reqid) {
+        const uint8_t *bytes = &plan[CXPI_PLAN_ROWS_AT + CXPI_ROW_LENGTH * row];
+        if (bytes[CXPI_ROW_REQID_AT] == reqid) {
             return bytes;
         }
     }
     return NULL;
 }
 
-/* The master's side: a step, and what it commands is done */
+/* The master's side: a step, and what it commands is done; a refused one commands nothing */
 
 static uint32_t step_master(const uint8_t *event, size_t length) {
-    uint8_t answer[CXPI_MASTER_ANSWER_LENGTH];
-    uint32_t result = cxpi_master_step(plan, sizeof plan, master, sizeof master, event, length, answer, sizeof answer);
-    if (CXPI_REFUSAL(result) == CXPI_NOT_HELD) {
-        printf("  master: permission of node %u is not held\n", (unsigned)CXPI_NODE_NAMED(result));
+    uint8_t reply[CXPI_MASTER_REPLY_LENGTH];
+    uint32_t refusal = cxpi_master_step(plan, sizeof plan, master, sizeof master, event, length, reply, sizeof reply);
+    if (refusal == CXPI_NOT_HELD) {
+        printf("  master: permission of node %u is not held\n", reply[CXPI_MASTER_REPLY_NODE_AT]);
     }
-    if (result != CXPI_DONE) {
-        return CXPI_REFUSAL(result);
-    }
-    switch (answer[0]) {
+    switch (reply[CXPI_MASTER_REPLY_COMMAND_AT]) {
     case CXPI_CLOCK_ON:
         clock_runs = true;
         printf("  master: clock on\n");
@@ -72,18 +66,17 @@ static uint32_t step_master(const uint8_t *event, size_t length) {
     default:
         break;
     }
-    if (answer[1] > 0) {
-        printf("  master: %u answers lost\n", answer[1]);
+    if (reply[CXPI_MASTER_REPLY_LOST_AT] > 0) {
+        printf("  master: %u answers lost\n", reply[CXPI_MASTER_REPLY_LOST_AT]);
     }
-    return CXPI_DONE;
+    return refusal;
 }
 
-/* A node's side: a step; the answer says what the bus is to carry */
+/* A node's side: a step; the reply says what the bus is to carry, nothing where it is refused */
 
-static uint32_t step_node(unsigned node, const uint8_t *event, size_t length, uint8_t *answer) {
-    memset(answer, 0, CXPI_NODE_ANSWER_LENGTH);
-    return cxpi_node_step(plan, sizeof plan, (uint8_t)node, nodes[node], CXPI_NODE_LENGTH, event, length, answer,
-                          CXPI_NODE_ANSWER_LENGTH);
+static uint32_t step_node(unsigned node, const uint8_t *event, size_t length, uint8_t *reply) {
+    return cxpi_node_step(plan, sizeof plan, (uint8_t)node, nodes[node], CXPI_NODE_LENGTH, event, length, reply,
+                          CXPI_NODE_REPLY_LENGTH);
 }
 
 /* The bus stand-in: nothing is lost on it */
@@ -91,26 +84,33 @@ static uint32_t step_node(unsigned node, const uint8_t *event, size_t length, ui
 static void bus_pulse(unsigned sender) {
     static const uint8_t to_master[] = {CXPI_MASTER_PULSE};
     static const uint8_t to_node[] = {CXPI_NODE_PULSE};
-    uint8_t answer[CXPI_NODE_ANSWER_LENGTH];
+    uint8_t reply[CXPI_NODE_REPLY_LENGTH];
     printf("  node %u: wake-up pulse\n", sender);
     step_master(to_master, sizeof to_master);
     for (unsigned node = 0; node < node_count(); node++) {
         if (node != sender) {
-            step_node(node, to_node, sizeof to_node, answer);
+            step_node(node, to_node, sizeof to_node, reply);
         }
     }
 }
 
-static uint32_t bus_answer(unsigned sender, uint8_t reqid, uint8_t length, const uint8_t *answer) {
-    uint8_t event[9] = {CXPI_MASTER_ANSWER, reqid, 0, 0, 0, length, answer[3], answer[1], answer[2]};
-    printf("  node %u: answer to %u, permission %u, wake bit %u, count %u\n", sender, reqid, answer[1], answer[2], answer[3]);
+/* The answer that a node's reply has goes to the master, and comes whole: result 0. */
+static uint32_t bus_answer(unsigned sender, const uint8_t *row, const uint8_t *reply) {
+    uint8_t event[CXPI_ANSWER_EVENT_LENGTH] = {CXPI_MASTER_ANSWER};
+    event[CXPI_ANSWER_REQID_AT] = row[CXPI_ROW_REQID_AT];
+    event[CXPI_ANSWER_DATA_LENGTH_AT + 1] = row[CXPI_ROW_DATA_LENGTH_AT];
+    event[CXPI_ANSWER_COUNT_AT] = reply[CXPI_NODE_REPLY_COUNT_AT];
+    event[CXPI_ANSWER_PERMISSION_AT] = reply[CXPI_NODE_REPLY_PERMISSION_AT];
+    event[CXPI_ANSWER_WAKE_AT] = reply[CXPI_NODE_REPLY_WAKE_AT];
+    printf("  node %u: answer to %u, permission %u, wake bit %u, count %u\n", sender, row[CXPI_ROW_REQID_AT],
+           reply[CXPI_NODE_REPLY_PERMISSION_AT], reply[CXPI_NODE_REPLY_WAKE_AT], reply[CXPI_NODE_REPLY_COUNT_AT]);
     return step_master(event, sizeof event);
 }
 
 /* A request goes to all nodes, the publisher's answer back to the master. */
 static uint32_t bus_request(uint8_t reqid) {
-    uint8_t event[2] = {CXPI_NODE_REQUEST, reqid};
-    uint8_t answers[MOST_NODES][CXPI_NODE_ANSWER_LENGTH];
+    uint8_t event[CXPI_VALUE_EVENT_LENGTH] = {CXPI_NODE_REQUEST, reqid};
+    uint8_t replies[CXPI_MOST_NODES][CXPI_NODE_REPLY_LENGTH];
     const uint8_t *row = find_row(reqid);
     uint32_t refusal = CXPI_DONE;
     if (!clock_runs) {
@@ -119,29 +119,30 @@ static uint32_t bus_request(uint8_t reqid) {
     if (row == NULL) {
         return CXPI_NO_REQID;
     }
+    uint8_t publisher = row[CXPI_ROW_PUBLISHER_AT];
     for (unsigned node = 0; node < node_count(); node++) {
-        uint32_t of_node = step_node(node, event, sizeof event, answers[node]);
-        if (node == row[1]) {
+        uint32_t of_node = step_node(node, event, sizeof event, replies[node]);
+        if (node == publisher) {
             refusal = of_node;
         }
     }
-    if (refusal != CXPI_DONE || row[1] == MASTER_PUBLISHER) {
+    if (refusal != CXPI_DONE || publisher == CXPI_MASTER_PUBLISHES) {
         return refusal;
     }
-    return bus_answer(row[1], reqid, row[2], answers[row[1]]);
+    return bus_answer(publisher, row, replies[publisher]);
 }
 
 /* The driver's report that the sleep message went out; with it the nodes have got it. */
 static uint32_t bus_result(bool sent) {
-    uint8_t to_master[2] = {CXPI_MASTER_SEND_RESULT, sent};
+    uint8_t to_master[CXPI_VALUE_EVENT_LENGTH] = {CXPI_MASTER_SEND_RESULT, sent};
     static const uint8_t to_node[] = {CXPI_NODE_SLEEP_MESSAGE};
-    uint8_t answer[CXPI_NODE_ANSWER_LENGTH];
+    uint8_t reply[CXPI_NODE_REPLY_LENGTH];
     uint32_t refusal = step_master(to_master, sizeof to_master);
     if (refusal != CXPI_DONE || !sent) {
         return refusal;
     }
     for (unsigned node = 0; node < node_count(); node++) {
-        step_node(node, to_node, sizeof to_node, answer);
+        step_node(node, to_node, sizeof to_node, reply);
     }
     return CXPI_DONE;
 }
@@ -154,14 +155,14 @@ static void tick_interrupt(void) {
 
 static uint32_t handle_tick(void) {
     static const uint8_t to_master[] = {CXPI_MASTER_TICK};
-    bool pulses[MOST_NODES] = {false};
-    uint8_t to_node[2] = {CXPI_NODE_TICK, 0};
+    bool pulses[CXPI_MOST_NODES] = {false};
+    uint8_t to_node[CXPI_VALUE_EVENT_LENGTH] = {CXPI_NODE_TICK, 0};
     uint32_t refusal = step_master(to_master, sizeof to_master);
-    to_node[1] = clock_runs;
+    to_node[CXPI_EVENT_VALUE_AT] = clock_runs;
     for (unsigned node = 0; node < node_count(); node++) {
-        uint8_t answer[CXPI_NODE_ANSWER_LENGTH];
-        step_node(node, to_node, sizeof to_node, answer);
-        pulses[node] = answer[0] == CXPI_SEND_PULSE;
+        uint8_t reply[CXPI_NODE_REPLY_LENGTH];
+        step_node(node, to_node, sizeof to_node, reply);
+        pulses[node] = reply[CXPI_NODE_REPLY_COMMAND_AT] == CXPI_SEND_PULSE;
     }
     for (unsigned node = 0; node < node_count(); node++) {
         if (pulses[node]) {
@@ -175,22 +176,22 @@ static uint32_t handle_tick(void) {
 
 static uint32_t wake_node(unsigned node) {
     static const uint8_t event[] = {CXPI_NODE_WAKE};
-    uint8_t answer[CXPI_NODE_ANSWER_LENGTH];
-    uint32_t refusal = step_node(node, event, sizeof event, answer);
-    if (refusal == CXPI_DONE && answer[0] == CXPI_SEND_PULSE) {
+    uint8_t reply[CXPI_NODE_REPLY_LENGTH];
+    uint32_t refusal = step_node(node, event, sizeof event, reply);
+    if (reply[CXPI_NODE_REPLY_COMMAND_AT] == CXPI_SEND_PULSE) {
         bus_pulse(node);
     }
     return refusal;
 }
 
 static uint32_t permit_node(unsigned node, bool permission) {
-    uint8_t event[2] = {CXPI_NODE_PERMISSION, permission};
-    uint8_t answer[CXPI_NODE_ANSWER_LENGTH];
-    return step_node(node, event, sizeof event, answer);
+    uint8_t event[CXPI_VALUE_EVENT_LENGTH] = {CXPI_NODE_PERMISSION, permission};
+    uint8_t reply[CXPI_NODE_REPLY_LENGTH];
+    return step_node(node, event, sizeof event, reply);
 }
 
 static uint32_t permit_master(bool permission) {
-    uint8_t event[2] = {CXPI_MASTER_PERMISSION, permission};
+    uint8_t event[CXPI_VALUE_EVENT_LENGTH] = {CXPI_MASTER_PERMISSION, permission};
     return step_master(event, sizeof event);
 }
 
@@ -229,9 +230,9 @@ static uint32_t make_move(move made) {
 
 static void print_line(unsigned number, uint32_t refusal) {
     static const char letters[] = {[CXPI_NORMAL] = 'N', [CXPI_STANDBY] = 'S', [CXPI_SLEEP] = 'Z'};
-    printf("%u %c%u %d ", number, letters[master[0]], master[1], clock_runs);
+    printf("%u %c%u %d ", number, letters[master[CXPI_MASTER_STATE_AT]], master[CXPI_MASTER_PHASE_AT], clock_runs);
     for (unsigned node = 0; node < node_count(); node++) {
-        printf("%c%s", letters[nodes[node][0]], nodes[node][2] ? "!" : "");
+        printf("%c%s", letters[nodes[node][CXPI_NODE_STATE_AT]], nodes[node][CXPI_NODE_ERROR_AT] ? "!" : "");
     }
     printf(" %u\n", (unsigned)refusal);
 }
@@ -269,6 +270,10 @@ static uint32_t read_set(const char *path) {
 }
 
 int main(int count, char **arguments) {
+    if (cxpi_version() != CXPI_VERSION) {
+        printf("the archive and the header differ in their version\n");
+        return 1;
+    }
     uint32_t refusal = read_set(count > 1 ? arguments[1] : NULL);
     if (refusal != CXPI_DONE) {
         printf("set %u\n", (unsigned)refusal);

@@ -76,19 +76,20 @@ enum { READ, WRITE, MASTER_POWER_ON, NODE_POWER_ON, MASTER_STEP, NODE_STEP, EXPO
 static const char *const export_names[EXPORTS] = {"cxpi_read",          "cxpi_write",       "cxpi_master_power_on",
                                                   "cxpi_node_power_on", "cxpi_master_step", "cxpi_node_step"};
 
-enum { SMALL_RESULTS = 22, RESULT_ONE = SMALL_RESULTS, RESULT_TWO, RESULT_OTHER, RESULTS };
+enum { NUMBERS = 22, OTHER_NUMBER = NUMBERS };
 
-/* The results that include/cxpi.h names for each export; -1 ends a list. */
-static const int expected_results[EXPORTS][SMALL_RESULTS] = {
+/* The numbers that include/cxpi.h names for each export; -1 ends a list. */
+static const int expected_numbers[EXPORTS][NUMBERS] = {
     {0, 1, 2, 3, 4, 5, 6, 7, 8, 9, 10, -1},
-    {1, 4, 5, 6, 7, 8, 10, RESULT_ONE, RESULT_TWO, -1},
+    {0, 4, 5, 6, 7, 8, 10, -1},
     {0, 10, -1},
     {0, 10, -1},
-    {0, 1, 4, 5, 6, 7, 8, 10, 11, 12, 13, 14, 15, 16, 17, 18, 19, 20, -1},
-    {0, 1, 4, 5, 6, 7, 8, 10, 11, 12, 15, 16, 21, -1},
+    {0, 4, 5, 6, 7, 8, 10, 11, 12, 13, 14, 15, 16, 17, 18, 19, 20, -1},
+    {0, 4, 5, 6, 7, 8, 10, 11, 12, 15, 16, 21, -1},
 };
 
-static uint64_t came[EXPORTS][RESULTS];
+static uint64_t came[EXPORTS][OTHER_NUMBER + 1];
+static uint64_t lengths[2];             /* of sets written: 1,024 and 1,536 */
 static uint64_t named[REFERENCE_NODES]; /* by 20 */
 static uint64_t commands[2][4];         /* of the master, of a node */
 static uint64_t lost[4];
@@ -96,17 +97,7 @@ static uint64_t round_trips;
 static uint64_t differences;
 
 static void count_result(int export, uint32_t result) {
-    uint32_t refusal = export == MASTER_STEP ? CXPI_REFUSAL(result) : result;
-    int place = RESULT_OTHER;
-    if (refusal < SMALL_RESULTS) {
-        place = (int)refusal;
-    } else if (refusal == CXPI_SET_LENGTH_ONE || refusal == CXPI_SET_LENGTH_TWO) {
-        place = refusal == CXPI_SET_LENGTH_ONE ? RESULT_ONE : RESULT_TWO;
-    }
-    came[export][place]++;
-    if (export == MASTER_STEP && refusal == CXPI_NOT_HELD && CXPI_NODE_NAMED(result) < REFERENCE_NODES) {
-        named[CXPI_NODE_NAMED(result)]++;
-    }
+    came[export][result < NUMBERS ? result : OTHER_NUMBER]++;
 }
 
 static void differ(int export, uint32_t got, uint32_t wanted) {
@@ -243,10 +234,17 @@ static void compare_write(const uint8_t *plan, size_t length, size_t room) {
     lent_paint(&subject_set, room);
     reference_plan_bytes = subject_plan;
     reference_set = subject_set;
-    uint32_t got = cxpi_write(lent_bytes(&subject_plan), length, lent_bytes(&subject_set), room);
-    uint32_t wanted = reference_cxpi_write(lent_bytes(&reference_plan_bytes), length, lent_bytes(&reference_set), room);
+    uint16_t got_length = 0xA5A5;
+    uint16_t wanted_length = 0xA5A5;
+    uint32_t got = cxpi_write(lent_bytes(&subject_plan), length, lent_bytes(&subject_set), room, &got_length);
+    uint32_t wanted =
+        reference_cxpi_write(lent_bytes(&reference_plan_bytes), length, lent_bytes(&reference_set), room, &wanted_length);
     count_result(WRITE, wanted);
-    if (got != wanted || !lent_same(&subject_set, &reference_set) || !lent_same(&subject_plan, &reference_plan_bytes)) {
+    if (wanted == CXPI_DONE) {
+        lengths[wanted_length == CXPI_SET_LENGTH_TWO]++;
+    }
+    if (got != wanted || got_length != wanted_length || !lent_same(&subject_set, &reference_set) ||
+        !lent_same(&subject_plan, &reference_plan_bytes)) {
         differ(WRITE, got, wanted);
     }
 }
@@ -258,10 +256,11 @@ static void check_round_trip(const uint8_t *set, size_t length) {
     if (cxpi_read(set, length, plan, sizeof plan) != CXPI_DONE) {
         return;
     }
+    uint16_t written;
     round_trips++;
-    uint32_t written = cxpi_write(plan, sizeof plan, back, sizeof back);
-    if (written != length || memcmp(set, back, length) != 0) {
-        differ(WRITE, written, (uint32_t)length);
+    uint32_t got = cxpi_write(plan, sizeof plan, back, sizeof back, &written);
+    if (got != CXPI_DONE || written != length || memcmp(set, back, length) != 0) {
+        differ(WRITE, got, CXPI_DONE);
     }
 }
 
@@ -334,13 +333,13 @@ static size_t random_room(size_t needed) {
 static reference_plan set_plan;
 static uint8_t packed_plan[CXPI_PLAN_LENGTH];
 static uint8_t right_set[LENT_ROOM];
-static size_t right_length;
+static uint16_t right_length;
 
 static void next_right_set(void) {
     random_plan(&set_plan);
     reference_pack_plan(&set_plan, packed_plan);
     memset(right_set, 0, sizeof right_set);
-    right_length = reference_write(&set_plan, right_set, sizeof right_set);
+    reference_write(&set_plan, right_set, sizeof right_set, &right_length);
 }
 
 static void compare_a_set(void) {
@@ -628,7 +627,7 @@ typedef struct {
     size_t state_length;
     uint8_t event[16];
     size_t event_length;
-    size_t answer_length;
+    size_t reply_length;
 } step;
 
 static void choose_plan(step *made, const pool_plan *plan) {
@@ -674,37 +673,40 @@ static void choose_event(step *made, const reference_plan *plan, bool master) {
     }
 }
 
-static void choose_answer(step *made, size_t needed) {
-    made->answer_length = percent(98) ? needed + (percent(50) ? 0 : below(9)) : below((uint32_t)needed);
+static void choose_reply(step *made, size_t needed) {
+    made->reply_length = percent(98) ? needed + (percent(50) ? 0 : below(9)) : below((uint32_t)needed);
 }
 
 /* The buffers of both sides; the reference's copies are made from the subject's before the call. */
-static lent subject_step_plan, subject_event, subject_answer, reference_step_plan, reference_event, reference_answer;
+static lent subject_step_plan, subject_event, subject_reply, reference_step_plan, reference_event, reference_reply;
 
 static void lend_step(const step *made) {
     lent_fill(&subject_step_plan, made->plan, made->plan_length);
     lent_fill(&subject_state, made->state, made->state_length);
     lent_fill(&subject_event, made->event, made->event_length);
-    lent_paint(&subject_answer, made->answer_length);
+    lent_paint(&subject_reply, made->reply_length);
     lent_fill(&reference_step_plan, made->plan, made->plan_length);
     lent_fill(&reference_state, made->state, made->state_length);
     lent_fill(&reference_event, made->event, made->event_length);
-    lent_paint(&reference_answer, made->answer_length);
+    lent_paint(&reference_reply, made->reply_length);
 }
 
 static bool step_same(void) {
     return lent_same(&subject_step_plan, &reference_step_plan) && lent_same(&subject_state, &reference_state) &&
-           lent_same(&subject_event, &reference_event) && lent_same(&subject_answer, &reference_answer);
+           lent_same(&subject_event, &reference_event) && lent_same(&subject_reply, &reference_reply);
 }
 
 static void count_step(int export, uint32_t wanted) {
-    const uint8_t *answer = lent_bytes(&reference_answer);
+    const uint8_t *reply = lent_bytes(&reference_reply);
     count_result(export, wanted);
     if (wanted == CXPI_DONE) {
-        commands[export == NODE_STEP][answer[0] & 3]++;
+        commands[export == NODE_STEP][reply[0] & 3]++;
         if (export == MASTER_STEP) {
-            lost[answer[1] & 3]++;
+            lost[reply[1] & 3]++;
         }
+    }
+    if (wanted == CXPI_NOT_HELD && reply[2] < REFERENCE_NODES) {
+        named[reply[2]]++;
     }
 }
 
@@ -714,13 +716,13 @@ static void compare_master_step(network *walked) {
     choose_plan(&made, walked->plan);
     bool walking = choose_state(&made, plan, walked->master, true);
     choose_event(&made, plan, true);
-    choose_answer(&made, CXPI_MASTER_ANSWER_LENGTH);
+    choose_reply(&made, CXPI_MASTER_REPLY_LENGTH);
     lend_step(&made);
     uint32_t got = cxpi_master_step(lent_bytes(&subject_step_plan), made.plan_length, lent_bytes(&subject_state), made.state_length,
-                                    lent_bytes(&subject_event), made.event_length, lent_bytes(&subject_answer), made.answer_length);
+                                    lent_bytes(&subject_event), made.event_length, lent_bytes(&subject_reply), made.reply_length);
     uint32_t wanted =
         reference_cxpi_master_step(lent_bytes(&reference_step_plan), made.plan_length, lent_bytes(&reference_state), made.state_length,
-                                   lent_bytes(&reference_event), made.event_length, lent_bytes(&reference_answer), made.answer_length);
+                                   lent_bytes(&reference_event), made.event_length, lent_bytes(&reference_reply), made.reply_length);
     count_step(MASTER_STEP, wanted);
     if (got != wanted || !step_same()) {
         differ(MASTER_STEP, got, wanted);
@@ -737,15 +739,15 @@ static void compare_node_step(network *walked) {
     choose_plan(&made, walked->plan);
     bool walking = choose_state(&made, plan, walked->nodes[number], false);
     choose_event(&made, plan, false);
-    choose_answer(&made, CXPI_NODE_ANSWER_LENGTH);
+    choose_reply(&made, CXPI_NODE_REPLY_LENGTH);
     made.number = percent(98) ? number : percent(50) ? plan->node_count : random_byte();
     lend_step(&made);
     uint32_t got =
         cxpi_node_step(lent_bytes(&subject_step_plan), made.plan_length, made.number, lent_bytes(&subject_state), made.state_length,
-                       lent_bytes(&subject_event), made.event_length, lent_bytes(&subject_answer), made.answer_length);
+                       lent_bytes(&subject_event), made.event_length, lent_bytes(&subject_reply), made.reply_length);
     uint32_t wanted = reference_cxpi_node_step(lent_bytes(&reference_step_plan), made.plan_length, made.number,
                                                lent_bytes(&reference_state), made.state_length, lent_bytes(&reference_event),
-                                               made.event_length, lent_bytes(&reference_answer), made.answer_length);
+                                               made.event_length, lent_bytes(&reference_reply), made.reply_length);
     count_step(NODE_STEP, wanted);
     if (got != wanted || !step_same()) {
         differ(NODE_STEP, got, wanted);
@@ -778,10 +780,9 @@ static void compare_steps(uint64_t steps) {
 static bool print_results(int export) {
     bool all = true;
     printf("%s\n", export_names[export]);
-    for (const int *expected = expected_results[export]; *expected >= 0; expected++) {
-        int result = *expected == RESULT_ONE ? CXPI_SET_LENGTH_ONE : *expected == RESULT_TWO ? CXPI_SET_LENGTH_TWO : *expected;
+    for (const int *expected = expected_numbers[export]; *expected >= 0; expected++) {
         bool some = came[export][*expected] > 0;
-        printf("  %4d %12" PRIu64 "%s\n", result, came[export][*expected], some ? "" : "  never came");
+        printf("  %4d %12" PRIu64 "%s\n", *expected, came[export][*expected], some ? "" : "  never came");
         all = all && some;
     }
     return all;
@@ -805,6 +806,7 @@ static bool print_table(bool sets, bool steps) {
         all = (!run || print_results(export)) && all;
     }
     if (sets) {
+        all = print_counts("sets of 1,024 and 1,536", lengths, 2) && all;
         all = print_counts("round trips", &round_trips, 1) && all;
     }
     if (steps) {

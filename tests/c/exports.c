@@ -52,8 +52,17 @@ static void apply(const edit *edits, uint8_t *bytes) {
 
 /* Reading */
 
-static lent lent_set, wanted_set, lent_plan, wanted_plan, lent_state, wanted_state, lent_event, wanted_event, lent_answer,
-    wanted_answer;
+static lent lent_set, wanted_set, lent_plan, wanted_plan, lent_state, wanted_state, lent_event, wanted_event, lent_reply, wanted_reply;
+
+/* Plan T of revision 6, with bytes in every unused place. */
+static uint8_t old_plan[CXPI_PLAN_LENGTH];
+
+static void make_old_plan(void) {
+    memset(old_plan, 0xEE, sizeof old_plan);
+    memcpy(old_plan, plan_t, 23);
+    memcpy(old_plan + 83, plan_t + 83, 4);
+    old_plan[1] = 6;
+}
 
 static void mend_checks(uint8_t *set, size_t length) {
     for (size_t block = 0; block + 512 <= length; block += 512) {
@@ -66,14 +75,17 @@ static void mend_checks(uint8_t *set, size_t length) {
     }
 }
 
-/* Reads into a plan buffer of that length; the record is null where the read is refused. */
+/* Reads into a plan buffer of that length, which holds the plan of before. Where the read is refused record is null: the buffer then
+ * holds zeros, or what it held where it is too short. */
 static void expect_read(const char *what, const uint8_t *set, size_t length, size_t room, uint32_t result, const uint8_t *record) {
+    static const uint8_t zeros[CXPI_PLAN_LENGTH];
     lent_fill(&lent_set, set, length);
     lent_paint(&lent_plan, room);
+    memcpy(lent_bytes(&lent_plan), old_plan, room < CXPI_PLAN_LENGTH ? room : CXPI_PLAN_LENGTH);
     wanted_set = lent_set;
     wanted_plan = lent_plan;
-    if (record != NULL) {
-        memcpy(lent_bytes(&wanted_plan), record, CXPI_PLAN_LENGTH);
+    if (room >= CXPI_PLAN_LENGTH) {
+        memcpy(lent_bytes(&wanted_plan), record != NULL ? record : zeros, CXPI_PLAN_LENGTH);
     }
     check(cxpi_read(lent_bytes(&lent_set), length, lent_bytes(&lent_plan), room) == result, what);
     check(lent_same(&lent_set, &wanted_set) && lent_same(&lent_plan, &wanted_plan), what);
@@ -89,6 +101,7 @@ static void expect_mended(const char *what, const edit *edits, uint32_t result, 
     apply(record_edits, record);
     mend_checks(set, sizeof set);
     expect_read(what, set, sizeof set, CXPI_PLAN_LENGTH, result, result == 0 ? record : NULL);
+    expect_read(what, set, sizeof set, CXPI_PLAN_LENGTH + 40, result, result == 0 ? record : NULL);
 }
 
 static void expect_refused_set(const char *what, const edit *edits, uint32_t result) {
@@ -109,8 +122,9 @@ static void test_read_lengths(void) {
     expect_read("third block of zeros", longer, 1536, CXPI_PLAN_LENGTH, 3, NULL);
     for (size_t room = 0; room < CXPI_PLAN_LENGTH; room++) {
         expect_read("short plan buffer", set_t, sizeof set_t, room, 10, NULL);
+        expect_read("short plan buffer, wrong length", longer, 1023, room, 1, NULL);
     }
-    expect_read("short plan buffer, wrong length", longer, 1023, 0, 1, NULL);
+    expect_read("wrong length, longer plan buffer", longer, 1023, CXPI_PLAN_LENGTH + 40, 1, NULL);
     end_group("read: lengths");
 }
 
@@ -220,16 +234,26 @@ static void test_read_order(void) {
 
 /* Writing */
 
-static void expect_write(const char *what, const uint8_t *plan, size_t length, size_t room, uint32_t result, const uint8_t *set) {
+/* Writes into a set buffer of that length. Where the write is refused no set is written, and its length is 0. */
+static void expect_write(const char *what, const uint8_t *plan, size_t length, size_t room, uint32_t result, const uint8_t *set,
+                         uint16_t set_length) {
+    uint16_t lengths[3] = {0xA5A5, 0xA5A5, 0xA5A5};
     lent_fill(&lent_plan, plan, length);
     lent_paint(&lent_set, room);
     wanted_plan = lent_plan;
     wanted_set = lent_set;
-    if (set != NULL) {
-        memcpy(lent_bytes(&wanted_set), set, result);
-    }
-    check(cxpi_write(lent_bytes(&lent_plan), length, lent_bytes(&lent_set), room) == result, what);
+    memcpy(lent_bytes(&wanted_set), set, set_length);
+    check(cxpi_write(lent_bytes(&lent_plan), length, lent_bytes(&lent_set), room, &lengths[1]) == result, what);
+    check(lengths[1] == set_length && lengths[0] == 0xA5A5 && lengths[2] == 0xA5A5, what);
     check(lent_same(&lent_plan, &wanted_plan) && lent_same(&lent_set, &wanted_set), what);
+}
+
+static void expect_written(const char *what, const uint8_t *plan, size_t room, const uint8_t *set, uint16_t set_length) {
+    expect_write(what, plan, CXPI_PLAN_LENGTH, room, 0, set, set_length);
+}
+
+static void expect_refused_plan(const char *what, const uint8_t *plan, size_t length, size_t room, uint32_t result) {
+    expect_write(what, plan, length, room, result, set_t, 0);
 }
 
 static void test_write_lengths(void) {
@@ -239,18 +263,18 @@ static void test_write_lengths(void) {
     memset(filled + 23, 0xEE, 60);
     memset(filled + 87, 0xEE, 504);
     memcpy(longer, plan_t, sizeof plan_t);
-    expect_write("T is written", plan_t, sizeof plan_t, CXPI_SET_LENGTH_ONE, CXPI_SET_LENGTH_ONE, set_t);
-    expect_write("T is written into a longer buffer", plan_t, sizeof plan_t, 2000, CXPI_SET_LENGTH_ONE, set_t);
-    expect_write("unused places are ignored", filled, sizeof filled, CXPI_SET_LENGTH_ONE, CXPI_SET_LENGTH_ONE, set_t);
+    expect_written("T is written", plan_t, CXPI_SET_LENGTH_ONE, set_t, 1024);
+    expect_written("T is written into a longer buffer", plan_t, 2000, set_t, 1024);
+    expect_written("unused places are ignored", filled, CXPI_SET_LENGTH_ONE, set_t, 1024);
     for (size_t room = 0; room < CXPI_SET_LENGTH_ONE; room++) {
-        expect_write("short set buffer", plan_t, sizeof plan_t, room, 10, NULL);
+        expect_refused_plan("short set buffer", plan_t, sizeof plan_t, room, 10);
     }
     for (size_t length = 0; length <= 1200; length++) {
         if (length != CXPI_PLAN_LENGTH) {
-            expect_write("wrong length of a plan", longer, length, CXPI_SET_LENGTH_ONE, 1, NULL);
+            expect_refused_plan("another length of a plan", longer, length, CXPI_SET_LENGTH_ONE, 4);
         }
     }
-    expect_write("1 before 10", longer, 590, 0, 1, NULL);
+    expect_refused_plan("another length before 10", longer, 590, 0, 4);
     end_group("write: lengths");
 }
 
@@ -313,8 +337,8 @@ static void test_write_refusals(void) {
     for (size_t place = 0; place < BROKEN_PLANS; place++) {
         const broken_plan *broken = &broken_plans[place];
         break_plan(broken, plan);
-        expect_write(broken->what, plan, sizeof plan, 2000, broken->refusal, NULL);
-        expect_write(broken->what, plan, sizeof plan, 0, broken->refusal, NULL);
+        expect_refused_plan(broken->what, plan, sizeof plan, 2000, broken->refusal);
+        expect_refused_plan(broken->what, plan, sizeof plan, 0, broken->refusal);
     }
     end_group("write: refusals");
 }
@@ -351,11 +375,11 @@ static void test_two_blocks(void) {
     uint8_t plan[CXPI_PLAN_LENGTH];
     uint8_t set[CXPI_SET_LENGTH_TWO];
     for (unsigned rows = 1; rows <= 127; rows++) {
-        uint32_t length = rows > 100 ? CXPI_SET_LENGTH_TWO : CXPI_SET_LENGTH_ONE;
+        uint16_t length = rows > 100 ? 1536 : 1024;
         make_rows(rows, plan, set);
         memset(plan + 83 + 4 * rows, 0, 4 * (127 - rows));
-        expect_write("rows are written", plan, sizeof plan, length + 7, length, set);
-        expect_write("short by one", plan, sizeof plan, length - 1, 10, NULL);
+        expect_written("rows are written", plan, length + 7u, set, length);
+        expect_refused_plan("short by one", plan, sizeof plan, length - 1u, 10);
         expect_read("rows are read", set, length, CXPI_PLAN_LENGTH, 0, plan);
     }
     expect_damaged_two("head of block 2", EDITS({1024, 0x50}), 3);
@@ -418,33 +442,46 @@ typedef struct {
     size_t state_length;
     const uint8_t *event;
     size_t event_length;
-    size_t answer_length;
+    size_t reply_length;
 } call;
 
+/* What the reply buffer holds before a call: clock off, three lost, node 15; or an answer with all bits set. */
+static const uint8_t old_replies[2][4] = {{2, 1, 1, 3}, {2, 3, 15}};
+
+static size_t reply_needed(const call *made) {
+    return made->master ? 3 : 4;
+}
+
 static uint32_t make_call(const call *made) {
+    size_t needed = reply_needed(made);
     lent_fill(&lent_plan, made->plan, made->plan_length);
     lent_fill(&lent_state, made->state, made->state_length);
     lent_fill(&lent_event, made->event, made->event_length);
-    lent_paint(&lent_answer, made->answer_length);
+    lent_paint(&lent_reply, made->reply_length);
+    memcpy(lent_bytes(&lent_reply), old_replies[made->master], made->reply_length < needed ? made->reply_length : needed);
     wanted_plan = lent_plan;
     wanted_state = lent_state;
     wanted_event = lent_event;
-    wanted_answer = lent_answer;
+    wanted_reply = lent_reply;
     if (made->master) {
         return cxpi_master_step(lent_bytes(&lent_plan), made->plan_length, lent_bytes(&lent_state), made->state_length,
-                                lent_bytes(&lent_event), made->event_length, lent_bytes(&lent_answer), made->answer_length);
+                                lent_bytes(&lent_event), made->event_length, lent_bytes(&lent_reply), made->reply_length);
     }
     return cxpi_node_step(lent_bytes(&lent_plan), made->plan_length, made->number, lent_bytes(&lent_state), made->state_length,
-                          lent_bytes(&lent_event), made->event_length, lent_bytes(&lent_answer), made->answer_length);
+                          lent_bytes(&lent_event), made->event_length, lent_bytes(&lent_reply), made->reply_length);
 }
 
-static void expect_call(const char *what, const call *made, uint32_t result, const edit *changes, const edit *answer) {
+/* The reply is zeros but for the edits; a buffer that is too short for it stays. */
+static void expect_call(const char *what, const call *made, uint32_t result, const edit *changes, const edit *reply) {
     uint32_t got = make_call(made);
     apply(changes, lent_bytes(&wanted_state));
-    apply(answer, lent_bytes(&wanted_answer));
+    if (made->reply_length >= reply_needed(made)) {
+        memset(lent_bytes(&wanted_reply), 0, reply_needed(made));
+        apply(reply, lent_bytes(&wanted_reply));
+    }
     check(got == result, what);
     check(lent_same(&lent_plan, &wanted_plan) && lent_same(&lent_state, &wanted_state) && lent_same(&lent_event, &wanted_event) &&
-              lent_same(&lent_answer, &wanted_answer),
+              lent_same(&lent_reply, &wanted_reply),
           what);
 }
 
@@ -473,7 +510,7 @@ static call master_call(const edit *before, const uint8_t *event, size_t event_l
                   .state_length = CXPI_MASTER_LENGTH,
                   .event = event,
                   .event_length = event_length,
-                  .answer_length = 2};
+                  .reply_length = 3};
 }
 
 static call node_call(uint8_t number, const edit *before, const uint8_t *event, size_t event_length) {
@@ -484,46 +521,52 @@ static call node_call(uint8_t number, const edit *before, const uint8_t *event, 
                   .state_length = CXPI_NODE_LENGTH,
                   .event = event,
                   .event_length = event_length,
-                  .answer_length = 4};
+                  .reply_length = 4};
 }
 
 static void master_does(const char *what, const edit *before, const uint8_t *event, size_t event_length, const edit *changes,
                         uint8_t command, uint8_t lost) {
     call made = master_call(before, event, event_length);
     expect_call(what, &made, 0, changes, EDITS({0, command}, {1, lost}));
-    made.answer_length = 50;
+    made.reply_length = 50;
     expect_call(what, &made, 0, changes, EDITS({0, command}, {1, lost}));
 }
 
 static void master_refuses(const char *what, const edit *before, const uint8_t *event, size_t event_length, uint32_t result) {
     call made = master_call(before, event, event_length);
     expect_call(what, &made, result, NONE, NONE);
+    made.reply_length = 50;
+    expect_call(what, &made, result, NONE, NONE);
 }
 
-/* 13 and 14: the state changes, the answer does not. */
+/* 13 and 14: the state changes, and nothing is commanded. */
 static void master_drops(const char *what, const edit *before, const uint8_t *event, size_t event_length, uint32_t result,
                          const edit *changes) {
     call made = master_call(before, event, event_length);
+    expect_call(what, &made, result, changes, NONE);
+    made.reply_length = 50;
     expect_call(what, &made, result, changes, NONE);
 }
 
 static void node_does(const char *what, const edit *before, const uint8_t *event, size_t event_length, const edit *changes,
                       uint8_t command) {
     call made = node_call(0, before, event, event_length);
-    expect_call(what, &made, 0, changes, EDITS({0, command}, {1, 0}, {2, 0}, {3, 0}));
+    expect_call(what, &made, 0, changes, EDITS({0, command}));
 }
 
 static void node_answers(const char *what, uint8_t number, const edit *before, const uint8_t *event, size_t event_length,
                          const edit *changes, uint8_t permission, uint8_t wake, uint8_t count) {
     call made = node_call(number, before, event, event_length);
     expect_call(what, &made, 0, changes, EDITS({0, 2}, {1, permission}, {2, wake}, {3, count}));
-    made.answer_length = 50;
+    made.reply_length = 50;
     expect_call(what, &made, 0, changes, EDITS({0, 2}, {1, permission}, {2, wake}, {3, count}));
 }
 
 static void node_refuses(const char *what, uint8_t number, const edit *before, const uint8_t *event, size_t event_length,
                          uint32_t result) {
     call made = node_call(number, before, event, event_length);
+    expect_call(what, &made, result, NONE, NONE);
+    made.reply_length = 50;
     expect_call(what, &made, result, NONE, NONE);
 }
 
@@ -607,6 +650,35 @@ static void test_late_sleep_ask(void) {
     expect_call("edge 7: the same after one more tick", &made, 20, NONE, NONE);
 }
 
+/* 20 names the lowest node whose permission is not held: each of sixteen, with those above it held and not held. */
+static void test_named_nodes(void) {
+    uint8_t plan[CXPI_PLAN_LENGTH] = {0};
+    memcpy(plan, plan_t, 19);
+    apply(EDITS({2, 16}, {4, 16}), plan);
+    for (uint8_t node = 0; node < 16; node++) {
+        const uint8_t entry[4] = {(uint8_t)(node + 1), 1, 0, 0};
+        const uint8_t row[4] = {(uint8_t)(node + 1), node, 0, 0};
+        memcpy(plan + 19 + 4 * node, entry, 4);
+        memcpy(plan + 83 + 4 * node, row, 4);
+    }
+    for (uint8_t named = 0; named < 16; named++) {
+        for (uint8_t above = 0; above < 2; above++) {
+            uint8_t state[CXPI_MASTER_LENGTH];
+            call made = master_call(NONE, SLEEP);
+            memcpy(state, master_with(EDITS({M_OWN, 1})), sizeof state);
+            for (uint8_t node = 0; node < 16; node++) {
+                state[M_HELD_0 + 3 * node] = node < named || (node > named && above);
+            }
+            made.plan = plan;
+            made.state = state;
+            expect_call("node named", &made, 20, NONE, EDITS({2, named}));
+            made.reply_length = 50;
+            expect_call("node named in a longer buffer", &made, 20, NONE, EDITS({2, named}));
+        }
+    }
+    end_group("master: node named by 20");
+}
+
 static void test_master_others(void) {
     for (uint8_t kind = 2; kind <= 3; kind++) {
         master_does("wake-up in Sleep", EDITS({M_STATE, 2}, {M_HELD_0, 1}), BYTES(kind), EDITS({M_STATE, 1}), 0, 0);
@@ -625,7 +697,6 @@ static void test_master_others(void) {
     master_does("edge 6: sleep ask at age W", EDITS({M_OWN, 1}, {M_HELD_0, 1}, {M_AGE_0, 10}, {M_HELD_1, 1}), SLEEP,
                 EDITS({M_PHASE, 1}), 3, 0);
     test_late_sleep_ask();
-    master_refuses("node 1 not held", EDITS({M_OWN, 1}, {M_HELD_0, 1}), SLEEP, 20 | 1 << 8);
     master_refuses("19 before 20", NONE, SLEEP, 19);
     master_refuses("18 before 19, Sending", EDITS({M_PHASE, 1}), SLEEP, 18);
     master_refuses("18, Withdrawn", EDITS({M_PHASE, 2}, {M_OWN, 1}, {M_HELD_0, 1}, {M_HELD_1, 1}), SLEEP, 18);
@@ -854,7 +925,7 @@ static void test_node_others(void) {
     end_group("node: other events");
 }
 
-/* The order of judging a step: 1, 4 to 8, 10, 11, 15, and wrong lengths of plan, state and answer buffer. */
+/* The order of judging a step: 4 to 8, 10, 11, 15, and wrong lengths of plan, state and reply buffer. */
 static void test_step_order(void) {
     uint8_t plan[CXPI_PLAN_LENGTH];
     static uint8_t bytes[LENT_ROOM];
@@ -863,15 +934,15 @@ static void test_step_order(void) {
     call *both[2] = {&masters, &nodes};
     for (size_t machine = 0; machine < 2; machine++) {
         call made = *both[machine];
-        size_t needed = machine == 0 ? 2 : 4;
         for (size_t place = 0; place < BROKEN_PLANS; place++) {
             break_plan(&broken_plans[place], plan);
             made.plan = plan;
             expect_call(broken_plans[place].what, &made, broken_plans[place].refusal, NONE, NONE);
-            made.answer_length = 0;
             made.state_length = 0;
             made.event_length = 0;
-            expect_call("4 to 8 before all others", &made, broken_plans[place].refusal, NONE, NONE);
+            expect_call("4 to 8 before 11 and 15", &made, broken_plans[place].refusal, NONE, NONE);
+            made.reply_length = reply_needed(&made) - 1;
+            expect_call("4 to 8 before 10", &made, broken_plans[place].refusal, NONE, NONE);
             made = *both[machine];
         }
         memcpy(bytes, plan_u, sizeof plan_u);
@@ -879,13 +950,16 @@ static void test_step_order(void) {
         for (size_t length = 0; length <= 1200; length++) {
             if (length != CXPI_PLAN_LENGTH) {
                 made.plan_length = length;
-                expect_call("wrong length of a plan", &made, 1, NONE, NONE);
+                expect_call("another length of a plan", &made, 4, NONE, NONE);
+                made.reply_length = 0;
+                expect_call("another length of a plan before 10", &made, 4, NONE, NONE);
+                made.reply_length = both[machine]->reply_length;
             }
         }
         made = *both[machine];
-        for (size_t length = 0; length < needed; length++) {
-            made.answer_length = length;
-            expect_call("short answer buffer", &made, 10, NONE, NONE);
+        for (size_t length = 0; length < reply_needed(&made); length++) {
+            made.reply_length = length;
+            expect_call("short reply buffer", &made, 10, NONE, NONE);
             made.state_length = 0;
             made.event_length = 0;
             expect_call("10 before 11 and 15", &made, 10, NONE, NONE);
@@ -908,7 +982,7 @@ static void test_step_order(void) {
     nodes.number = 2;
     nodes.event_length = 0;
     expect_call("node number before 15", &nodes, 11, NONE, NONE);
-    nodes.answer_length = 3;
+    nodes.reply_length = 3;
     expect_call("10 before the node number", &nodes, 10, NONE, NONE);
     end_group("steps: order and lengths");
 }
@@ -921,7 +995,7 @@ static void test_unused_places(void) {
     memset(plan + 95, 18, 496);
     call made = master_call(NONE, ANSWER(16, 0, 2, 0, 1, 0));
     made.plan = plan;
-    expect_call("master", &made, 0, EDITS({M_HELD_0, 1}, {M_COUNTS + 16, 0}), EDITS({0, 0}, {1, 0}));
+    expect_call("master", &made, 0, EDITS({M_HELD_0, 1}, {M_COUNTS + 16, 0}), NONE);
     made = master_call(NONE, ANSWER(18, 0, 2, 0, 1, 0));
     made.plan = plan;
     expect_call("a row past the count", &made, 12, NONE, NONE);
@@ -943,10 +1017,13 @@ static void test_file(const char *path) {
 }
 
 int main(int count, char **arguments) {
+    make_old_plan();
     make_plan_u();
     if (count > 1) {
         test_file(arguments[1]);
     }
+    check(cxpi_version() == 1, "version");
+    end_group("version");
     test_read_lengths();
     test_read_bytes();
     test_read_plan_block();
@@ -959,6 +1036,7 @@ int main(int count, char **arguments) {
     test_power_on();
     test_master_tick();
     test_master_answer();
+    test_named_nodes();
     test_master_others();
     test_master_range();
     test_node_tick();

@@ -5,8 +5,9 @@
 #include "cxpi.h"
 
 extern "C" {
+uint32_t (*version)() = cxpi_version;
 uint32_t (*read_set)(const uint8_t *, size_t, uint8_t *, size_t) = cxpi_read;
-uint32_t (*write_set)(const uint8_t *, size_t, uint8_t *, size_t) = cxpi_write;
+uint32_t (*write_set)(const uint8_t *, size_t, uint8_t *, size_t, uint16_t *) = cxpi_write;
 uint32_t (*master_power_on)(uint8_t *, size_t) = cxpi_master_power_on;
 uint32_t (*node_power_on)(uint8_t *, size_t) = cxpi_node_power_on;
 uint32_t (*master_step)(const uint8_t *, size_t, uint8_t *, size_t, const uint8_t *, size_t, uint8_t *, size_t) = cxpi_master_step;

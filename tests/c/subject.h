@@ -6,6 +6,7 @@
 
 #ifdef CXPI_REFERENCE
 #include "reference_packed.h"
+#define cxpi_version reference_cxpi_version
 #define cxpi_read reference_cxpi_read
 #define cxpi_write reference_cxpi_write
 #define cxpi_master_power_on reference_cxpi_master_power_on

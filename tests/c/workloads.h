@@ -9,7 +9,7 @@
 
 typedef struct {
     uint32_t (*read)(const uint8_t *, size_t, uint8_t *, size_t);
-    uint32_t (*write)(const uint8_t *, size_t, uint8_t *, size_t);
+    uint32_t (*write)(const uint8_t *, size_t, uint8_t *, size_t, uint16_t *);
     uint32_t (*master_power_on)(uint8_t *, size_t);
     uint32_t (*node_power_on)(uint8_t *, size_t);
     uint32_t (*master_step)(const uint8_t *, size_t, uint8_t *, size_t, const uint8_t *, size_t, uint8_t *, size_t);
@@ -22,8 +22,13 @@ static const side baseline = {reference_cxpi_read,          reference_cxpi_write
 
 /* Functions that do nothing, for what the harness itself takes. */
 
-static uint32_t no_set(const uint8_t *from, size_t from_length, uint8_t *to, size_t to_length) {
+static uint32_t no_read(const uint8_t *from, size_t from_length, uint8_t *to, size_t to_length) {
     (void)from, (void)from_length, (void)to, (void)to_length;
+    return 0;
+}
+
+static uint32_t no_write(const uint8_t *from, size_t from_length, uint8_t *to, size_t to_length, uint16_t *length) {
+    (void)from, (void)from_length, (void)to, (void)to_length, (void)length;
     return 0;
 }
 
@@ -33,24 +38,24 @@ static uint32_t no_power_on(uint8_t *state, size_t length) {
 }
 
 static uint32_t no_master_step(const uint8_t *plan, size_t plan_length, uint8_t *state, size_t state_length, const uint8_t *event,
-                               size_t event_length, uint8_t *answer, size_t answer_length) {
-    (void)plan, (void)plan_length, (void)state, (void)state_length, (void)event, (void)event_length, (void)answer, (void)answer_length;
+                               size_t event_length, uint8_t *reply, size_t reply_length) {
+    (void)plan, (void)plan_length, (void)state, (void)state_length, (void)event, (void)event_length, (void)reply, (void)reply_length;
     return 0;
 }
 
 static uint32_t no_node_step(const uint8_t *plan, size_t plan_length, uint8_t node, uint8_t *state, size_t state_length,
-                             const uint8_t *event, size_t event_length, uint8_t *answer, size_t answer_length) {
-    (void)plan, (void)plan_length, (void)node, (void)state, (void)state_length, (void)event, (void)event_length, (void)answer,
-        (void)answer_length;
+                             const uint8_t *event, size_t event_length, uint8_t *reply, size_t reply_length) {
+    (void)plan, (void)plan_length, (void)node, (void)state, (void)state_length, (void)event, (void)event_length, (void)reply,
+        (void)reply_length;
     return 0;
 }
 
-static const side nothing = {no_set, no_set, no_power_on, no_power_on, no_master_step, no_node_step};
+static const side nothing = {no_read, no_write, no_power_on, no_power_on, no_master_step, no_node_step};
 
 /* Inputs of a plan */
 
 static uint8_t set[CXPI_SET_LENGTH_TWO];
-static size_t set_length;
+static uint16_t set_length;
 static uint8_t plan[CXPI_PLAN_LENGTH];
 static uint8_t requests[REFERENCE_ROWS]; /* the ReqId of each row */
 static size_t request_count;
@@ -89,19 +94,19 @@ static void make_master(const reference_plan *record) {
 
 static void make_node(const reference_plan *record) {
     static const uint8_t to_normal[2] = {CXPI_NODE_TICK, 1};
-    uint8_t answer[CXPI_NODE_ANSWER_LENGTH];
+    uint8_t reply[CXPI_NODE_REPLY_LENGTH];
     node_number = record->node_count / 2;
     while (!record->nodes[node_number].polled) {
         node_number++;
     }
     reference_cxpi_node_power_on(node, sizeof node);
     for (int tick = 0; tick < 2; tick++) {
-        reference_cxpi_node_step(plan, sizeof plan, node_number, node, sizeof node, to_normal, sizeof to_normal, answer, sizeof answer);
+        reference_cxpi_node_step(plan, sizeof plan, node_number, node, sizeof node, to_normal, sizeof to_normal, reply, sizeof reply);
     }
 }
 
 static void make_inputs(const reference_plan *record) {
-    set_length = reference_write(record, set, sizeof set);
+    reference_write(record, set, sizeof set, &set_length);
     reference_pack_plan(record, plan);
     make_requests(record);
     make_master(record);
@@ -116,8 +121,9 @@ static uint32_t run_read(const side *tested, size_t turn) {
 }
 
 static uint32_t run_write(const side *tested, size_t turn) {
+    uint16_t length;
     (void)turn;
-    return tested->write(plan, sizeof plan, set_room, sizeof set_room) != set_length;
+    return tested->write(plan, sizeof plan, set_room, sizeof set_room, &length);
 }
 
 static uint32_t run_master_power_on(const side *tested, size_t turn) {
@@ -131,30 +137,30 @@ static uint32_t run_node_power_on(const side *tested, size_t turn) {
 }
 
 static uint32_t run_master_answer(const side *tested, size_t turn) {
-    uint8_t answer[CXPI_MASTER_ANSWER_LENGTH];
-    return tested->master_step(plan, sizeof plan, master, sizeof master, answers[turn % answer_count], 9, answer, sizeof answer);
+    uint8_t reply[CXPI_MASTER_REPLY_LENGTH];
+    return tested->master_step(plan, sizeof plan, master, sizeof master, answers[turn % answer_count], 9, reply, sizeof reply);
 }
 
 static uint32_t run_master_tick(const side *tested, size_t turn) {
     static const uint8_t event[1] = {CXPI_MASTER_TICK};
-    uint8_t answer[CXPI_MASTER_ANSWER_LENGTH];
+    uint8_t reply[CXPI_MASTER_REPLY_LENGTH];
     if (turn % held_ticks == 0) {
         memcpy(master, held_master, sizeof master);
     }
-    return tested->master_step(plan, sizeof plan, master, sizeof master, event, sizeof event, answer, sizeof answer);
+    return tested->master_step(plan, sizeof plan, master, sizeof master, event, sizeof event, reply, sizeof reply);
 }
 
 static uint32_t run_node_request(const side *tested, size_t turn) {
     uint8_t event[2] = {CXPI_NODE_REQUEST, requests[turn % request_count]};
-    uint8_t answer[CXPI_NODE_ANSWER_LENGTH];
-    return tested->node_step(plan, sizeof plan, node_number, node, sizeof node, event, sizeof event, answer, sizeof answer);
+    uint8_t reply[CXPI_NODE_REPLY_LENGTH];
+    return tested->node_step(plan, sizeof plan, node_number, node, sizeof node, event, sizeof event, reply, sizeof reply);
 }
 
 static uint32_t run_node_tick(const side *tested, size_t turn) {
     static const uint8_t event[2] = {CXPI_NODE_TICK, 1};
-    uint8_t answer[CXPI_NODE_ANSWER_LENGTH];
+    uint8_t reply[CXPI_NODE_REPLY_LENGTH];
     (void)turn;
-    return tested->node_step(plan, sizeof plan, node_number, node, sizeof node, event, sizeof event, answer, sizeof answer);
+    return tested->node_step(plan, sizeof plan, node_number, node, sizeof node, event, sizeof event, reply, sizeof reply);
 }
 
 typedef struct {

@@ -66,13 +66,13 @@ bool reference_clock_is_on(const reference_world *world) {
 
 /* The node that 20 names is no part of what a move tells. */
 static uint32_t step_master(const reference_plan *plan, reference_world *world, reference_master_event event) {
-    reference_master_answer answer;
-    return reference_master_act(plan, &world->master, &event, &answer) & 0xff;
+    reference_master_reply reply;
+    return reference_master_act(plan, &world->master, &event, &reply);
 }
 
 static uint32_t step_node(const reference_plan *plan, reference_world *world, uint8_t number, reference_node_event event,
-                          reference_node_answer *answer) {
-    return reference_node_act(plan, number, &world->nodes[number], &event, answer);
+                          reference_node_reply *reply) {
+    return reference_node_act(plan, number, &world->nodes[number], &event, reply);
 }
 
 static bool is_in(uint16_t set, uint8_t number) {
@@ -85,10 +85,10 @@ static void spread_pulses(const reference_plan *plan, reference_world *world, co
         return;
     }
     for (uint8_t number = 0; number < plan->node_count; number++) {
-        reference_node_answer answer;
+        reference_node_reply reply;
         bool another_called = (callers & ~(1u << number)) != 0;
         if (another_called && is_in(move->hearing, number)) {
-            step_node(plan, world, number, (reference_node_event){.kind = REFERENCE_NODE_PULSE}, &answer);
+            step_node(plan, world, number, (reference_node_event){.kind = REFERENCE_NODE_PULSE}, &reply);
         }
     }
     if (move->master_hears) {
@@ -98,7 +98,7 @@ static void spread_pulses(const reference_plan *plan, reference_world *world, co
 
 /* Whole with the row's own length; damaged with the ReqId kept and all else as the move says. */
 static uint32_t deliver_answer(const reference_plan *plan, reference_world *world, const reference_move *move,
-                               const reference_node_answer *sent) {
+                               const reference_node_reply *sent) {
     reference_master_event event = {.kind = REFERENCE_MASTER_ANSWER, .reqid = move->value};
     switch (move->fate) {
     case REFERENCE_WHOLE:
@@ -127,9 +127,9 @@ static uint32_t act_tick(const reference_plan *plan, reference_world *world, con
     step_master(plan, world, (reference_master_event){.kind = REFERENCE_MASTER_TICK});
     reference_node_event event = {.kind = REFERENCE_NODE_TICK, .clock = reference_clock_is_on(world)};
     for (uint8_t number = 0; number < plan->node_count; number++) {
-        reference_node_answer answer;
-        step_node(plan, world, number, event, &answer);
-        if (answer.command == REFERENCE_SEND_PULSE) {
+        reference_node_reply reply;
+        step_node(plan, world, number, event, &reply);
+        if (reply.command == REFERENCE_SEND_PULSE) {
             callers |= (uint16_t)(1u << number);
         }
     }
@@ -138,24 +138,24 @@ static uint32_t act_tick(const reference_plan *plan, reference_world *world, con
 }
 
 static uint32_t act_node_wake(const reference_plan *plan, reference_world *world, const reference_move *move) {
-    reference_node_answer answer;
+    reference_node_reply reply;
     if (move->node >= plan->node_count) {
         return 11;
     }
-    uint32_t refusal = step_node(plan, world, move->node, (reference_node_event){.kind = REFERENCE_NODE_WAKE}, &answer);
-    if (answer.command == REFERENCE_SEND_PULSE) {
+    uint32_t refusal = step_node(plan, world, move->node, (reference_node_event){.kind = REFERENCE_NODE_WAKE}, &reply);
+    if (reply.command == REFERENCE_SEND_PULSE) {
         spread_pulses(plan, world, move, (uint16_t)(1u << move->node));
     }
     return refusal;
 }
 
 static uint32_t act_node_permission(const reference_plan *plan, reference_world *world, const reference_move *move) {
-    reference_node_answer answer;
+    reference_node_reply reply;
     if (move->node >= plan->node_count) {
         return 11;
     }
     reference_node_event event = {.kind = REFERENCE_NODE_PERMISSION, .permission = move->value};
-    return step_node(plan, world, move->node, event, &answer);
+    return step_node(plan, world, move->node, event, &reply);
 }
 
 /* A damaged answer has a result other than 0 and a count of 0 to 3; no bus delivers another. */
@@ -181,14 +181,14 @@ static uint32_t act_request(const reference_plan *plan, reference_world *world, 
     }
     uint8_t publisher = reference_find_row(plan, move->value)->publisher;
     reference_node_event event = {.kind = REFERENCE_NODE_REQUEST, .reqid = move->value};
-    reference_node_answer of_publisher = {0}; /* stays so where the master publishes, or the request misses its publisher */
+    reference_node_reply of_publisher = {0}; /* stays so where the master publishes, or the request misses its publisher */
     for (uint8_t number = 0; number < plan->node_count; number++) {
         if (is_in(move->reached, number)) {
-            reference_node_answer answer;
-            uint32_t of_node = step_node(plan, world, number, event, &answer);
+            reference_node_reply reply;
+            uint32_t of_node = step_node(plan, world, number, event, &reply);
             if (number == publisher) {
                 refusal = of_node;
-                of_publisher = answer;
+                of_publisher = reply;
             }
         }
     }
@@ -196,16 +196,16 @@ static uint32_t act_request(const reference_plan *plan, reference_world *world, 
 }
 
 static uint32_t act_send(const reference_plan *plan, reference_world *world, const reference_move *move) {
-    reference_node_answer answer;
+    reference_node_reply reply;
     if (move->node >= plan->node_count) {
         return 11;
     }
     uint32_t refusal = refusal_of_bus(plan, world, move);
     if (refusal == 0) {
         reference_node_event event = {.kind = REFERENCE_NODE_SEND, .reqid = move->value};
-        refusal = step_node(plan, world, move->node, event, &answer);
+        refusal = step_node(plan, world, move->node, event, &reply);
     }
-    return refusal != 0 ? refusal : deliver_answer(plan, world, move, &answer);
+    return refusal != 0 ? refusal : deliver_answer(plan, world, move, &reply);
 }
 
 /* The sleep message reaches nodes with its result, also with a failed one and after a call-back. */
@@ -216,9 +216,9 @@ static uint32_t act_send_result(const reference_plan *plan, reference_world *wor
         return refusal;
     }
     for (uint8_t number = 0; number < plan->node_count; number++) {
-        reference_node_answer answer;
+        reference_node_reply reply;
         if (is_in(move->reached, number)) {
-            step_node(plan, world, number, (reference_node_event){.kind = REFERENCE_NODE_SLEEP_MESSAGE}, &answer);
+            step_node(plan, world, number, (reference_node_event){.kind = REFERENCE_NODE_SLEEP_MESSAGE}, &reply);
         }
     }
     return 0;

@@ -35,25 +35,25 @@ static bool clock_is_on(const network *bus) {
 }
 
 static uint32_t step_master(network *bus, reference_master_event event) {
-    reference_master_answer answer;
-    return reference_master_act(&bus->plan, &bus->master, &event, &answer) & 0xff;
+    reference_master_reply reply;
+    return reference_master_act(&bus->plan, &bus->master, &event, &reply);
 }
 
-static uint32_t step_node(network *bus, uint8_t number, reference_node_event event, reference_node_answer *answer) {
-    return reference_node_act(&bus->plan, number, &bus->nodes[number], &event, answer);
+static uint32_t step_node(network *bus, uint8_t number, reference_node_event event, reference_node_reply *reply) {
+    return reference_node_act(&bus->plan, number, &bus->nodes[number], &event, reply);
 }
 
 static void deliver_pulse(network *bus, uint8_t sender) {
-    reference_node_answer answer;
+    reference_node_reply reply;
     step_master(bus, (reference_master_event){.kind = REFERENCE_MASTER_PULSE});
     for (uint8_t number = 0; number < bus->plan.node_count; number++) {
         if (number != sender) {
-            step_node(bus, number, (reference_node_event){.kind = REFERENCE_NODE_PULSE}, &answer);
+            step_node(bus, number, (reference_node_event){.kind = REFERENCE_NODE_PULSE}, &reply);
         }
     }
 }
 
-static uint32_t deliver_answer(network *bus, uint8_t reqid, const reference_node_answer *sent, passage passage) {
+static uint32_t deliver_answer(network *bus, uint8_t reqid, const reference_node_reply *sent, passage passage) {
     if (passage == LOST) {
         return 0;
     }
@@ -73,9 +73,9 @@ static uint32_t move_tick(network *bus) {
     step_master(bus, (reference_master_event){.kind = REFERENCE_MASTER_TICK});
     reference_node_event event = {.kind = REFERENCE_NODE_TICK, .clock = clock_is_on(bus)};
     for (uint8_t number = 0; number < bus->plan.node_count; number++) {
-        reference_node_answer answer;
-        step_node(bus, number, event, &answer);
-        pulses[number] = answer.command == REFERENCE_SEND_PULSE;
+        reference_node_reply reply;
+        step_node(bus, number, event, &reply);
+        pulses[number] = reply.command == REFERENCE_SEND_PULSE;
     }
     for (uint8_t number = 0; number < bus->plan.node_count; number++) {
         if (pulses[number]) {
@@ -86,23 +86,23 @@ static uint32_t move_tick(network *bus) {
 }
 
 static uint32_t move_wake(network *bus, uint8_t who) {
-    reference_node_answer answer;
+    reference_node_reply reply;
     if (who == MASTER) {
         return step_master(bus, (reference_master_event){.kind = REFERENCE_MASTER_WAKE});
     }
-    step_node(bus, who, (reference_node_event){.kind = REFERENCE_NODE_WAKE}, &answer);
-    if (answer.command == REFERENCE_SEND_PULSE) {
+    step_node(bus, who, (reference_node_event){.kind = REFERENCE_NODE_WAKE}, &reply);
+    if (reply.command == REFERENCE_SEND_PULSE) {
         deliver_pulse(bus, who);
     }
     return 0;
 }
 
 static uint32_t move_permit(network *bus, uint8_t who, uint8_t permission) {
-    reference_node_answer answer;
+    reference_node_reply reply;
     if (who == MASTER) {
         return step_master(bus, (reference_master_event){.kind = REFERENCE_MASTER_PERMISSION, .permission = permission});
     }
-    return step_node(bus, who, (reference_node_event){.kind = REFERENCE_NODE_PERMISSION, .permission = permission}, &answer);
+    return step_node(bus, who, (reference_node_event){.kind = REFERENCE_NODE_PERMISSION, .permission = permission}, &reply);
 }
 
 /* "Without clock, .. 16 and reach nobody; then a ReqId not in the plan gives 12." */
@@ -120,13 +120,13 @@ static uint32_t move_request(network *bus, uint8_t reqid, passage passage) {
     }
     uint8_t publisher = reference_find_row(&bus->plan, reqid)->publisher;
     reference_node_event event = {.kind = REFERENCE_NODE_REQUEST, .reqid = reqid};
-    reference_node_answer answer;
-    reference_node_answer of_publisher = {0};
+    reference_node_reply reply;
+    reference_node_reply of_publisher = {0};
     for (uint8_t number = 0; number < bus->plan.node_count; number++) {
-        uint32_t of_node = step_node(bus, number, event, &answer);
+        uint32_t of_node = step_node(bus, number, event, &reply);
         if (number == publisher) {
             refusal = of_node;
-            of_publisher = answer;
+            of_publisher = reply;
         }
     }
     if (refusal != 0 || publisher == REFERENCE_MASTER_PUBLISHER) {
@@ -136,12 +136,12 @@ static uint32_t move_request(network *bus, uint8_t reqid, passage passage) {
 }
 
 static uint32_t move_send(network *bus, uint8_t who, uint8_t reqid, passage passage) {
-    reference_node_answer answer;
+    reference_node_reply reply;
     uint32_t refusal = refusal_of_bus(bus, reqid);
     if (refusal == 0) {
-        refusal = step_node(bus, who, (reference_node_event){.kind = REFERENCE_NODE_SEND, .reqid = reqid}, &answer);
+        refusal = step_node(bus, who, (reference_node_event){.kind = REFERENCE_NODE_SEND, .reqid = reqid}, &reply);
     }
-    return refusal != 0 ? refusal : deliver_answer(bus, reqid, &answer, passage);
+    return refusal != 0 ? refusal : deliver_answer(bus, reqid, &reply, passage);
 }
 
 static uint32_t move_sent(network *bus, uint8_t sent) {
@@ -150,8 +150,8 @@ static uint32_t move_sent(network *bus, uint8_t sent) {
         return refusal;
     }
     for (uint8_t number = 0; number < bus->plan.node_count; number++) {
-        reference_node_answer answer;
-        step_node(bus, number, (reference_node_event){.kind = REFERENCE_NODE_SLEEP_MESSAGE}, &answer);
+        reference_node_reply reply;
+        step_node(bus, number, (reference_node_event){.kind = REFERENCE_NODE_SLEEP_MESSAGE}, &reply);
     }
     return 0;
 }

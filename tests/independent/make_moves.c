@@ -656,9 +656,10 @@ static void close_written(FILE *file) {
 
 static void write_set(const reference_plan *plan, const char *folder) {
     uint8_t set[3 * REFERENCE_BLOCK];
-    uint32_t length = reference_write(plan, set, sizeof set);
-    if (length < 1024) {
-        fprintf(stderr, "the plan is refused: %u\n", (unsigned)length);
+    uint16_t length;
+    uint32_t refusal = reference_write(plan, set, sizeof set, &length);
+    if (refusal != 0) {
+        fprintf(stderr, "the plan is refused: %u\n", (unsigned)refusal);
         exit(1);
     }
     FILE *file = open_in(folder, "plan.set");

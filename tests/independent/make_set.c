@@ -11,9 +11,10 @@ int main(void) {
     reference_plan plan;
     uint8_t set[3 * REFERENCE_BLOCK];
     reference_big_plan(&plan);
-    uint32_t length = reference_write(&plan, set, sizeof set);
-    if (length != sizeof set) {
-        fprintf(stderr, "refused %u\n", (unsigned)length);
+    uint16_t length;
+    uint32_t refusal = reference_write(&plan, set, sizeof set, &length);
+    if (refusal != 0) {
+        fprintf(stderr, "refused %u\n", (unsigned)refusal);
         return 1;
     }
     return fwrite(set, 1, length, stdout) == length && fflush(stdout) == 0 ? 0 : 1;

@@ -304,14 +304,15 @@ static void write_message_block(const reference_plan *plan, size_t first, size_t
     close_block(block);
 }
 
-uint32_t reference_write(const reference_plan *plan, uint8_t *set, size_t length) {
+uint32_t reference_write(const reference_plan *plan, uint8_t *set, size_t room, uint16_t *length) {
+    *length = 0;
     uint32_t refusal = reference_plan_refusal(plan);
     if (refusal != 0) {
         return refusal;
     }
     bool two = plan->row_count > REFERENCE_ROWS_OF_BLOCK;
-    uint32_t needed = two ? 1536 : 1024;
-    if (length < needed) {
+    uint16_t needed = two ? 1536 : 1024;
+    if (room < needed) {
         return 10;
     }
     memset(set, 0, needed);
@@ -323,7 +324,8 @@ uint32_t reference_write(const reference_plan *plan, uint8_t *set, size_t length
     } else {
         write_message_block(plan, 0, plan->row_count, set + REFERENCE_BLOCK);
     }
-    return needed;
+    *length = needed;
+    return 0;
 }
 
 /* The master */
@@ -412,7 +414,7 @@ static void age_permissions(const reference_plan *plan, reference_master *master
     }
 }
 
-static uint32_t master_tick(const reference_plan *plan, reference_master *master, reference_master_answer *answer) {
+static uint32_t master_tick(const reference_plan *plan, reference_master *master, reference_master_reply *reply) {
     master->tick_number++;
     age_permissions(plan, master);
     if (master->state == REFERENCE_STANDBY) {
@@ -420,14 +422,14 @@ static uint32_t master_tick(const reference_plan *plan, reference_master *master
         if (master->delay >= plan->times.start) {
             enter(master, REFERENCE_NORMAL, REFERENCE_OPEN);
             memset(master->last_counts, REFERENCE_NO_COUNT, sizeof master->last_counts);
-            answer->command = REFERENCE_CLOCK_ON;
+            reply->command = REFERENCE_CLOCK_ON;
         }
     } else if (master->phase == REFERENCE_CLOSING) {
         master->delay++;
         if (master->delay >= plan->times.stop) {
             enter(master, REFERENCE_SLEEP, REFERENCE_OPEN);
             let_all_go(master);
-            answer->command = REFERENCE_CLOCK_OFF;
+            reply->command = REFERENCE_CLOCK_OFF;
         }
     }
     return 0;
@@ -440,7 +442,7 @@ static uint8_t store_count(reference_master *master, uint8_t reqid, uint8_t coun
 }
 
 static uint32_t master_answer(const reference_plan *plan, reference_master *master, const reference_master_event *event,
-                              reference_master_answer *answer) {
+                              reference_master_reply *reply) {
     const reference_row *row = reference_find_row(plan, event->reqid);
     if (row == NULL || row->publisher == REFERENCE_MASTER_PUBLISHER) {
         return 12;
@@ -452,7 +454,7 @@ static uint32_t master_answer(const reference_plan *plan, reference_master *mast
         return event->result != 0 ? 13 : 14;
     }
     if (row->counted) {
-        answer->lost = store_count(master, event->reqid, event->count);
+        reply->lost = store_count(master, event->reqid, event->count);
     }
     if (event->wake) {
         let_all_go(master);
@@ -485,20 +487,21 @@ static uint32_t master_permission(reference_master *master, uint8_t permission) 
     return 0;
 }
 
-static uint32_t master_sleep(const reference_plan *plan, reference_master *master, reference_master_answer *answer) {
+static uint32_t master_sleep(const reference_plan *plan, reference_master *master, reference_master_reply *reply) {
     if (master->phase != REFERENCE_OPEN) {
         return 18;
     }
     if (!master->own_permission) {
         return 19;
     }
-    for (uint32_t number = 0; number < plan->node_count; number++) {
+    for (uint8_t number = 0; number < plan->node_count; number++) {
         if (!master->permissions[number].held) {
-            return 20 | number << 8;
+            reply->node = number;
+            return 20;
         }
     }
     enter(master, REFERENCE_NORMAL, REFERENCE_SENDING);
-    answer->command = REFERENCE_SEND_SLEEP_MESSAGE;
+    reply->command = REFERENCE_SEND_SLEEP_MESSAGE;
     return 0;
 }
 
@@ -531,9 +534,8 @@ static bool master_event_needs_normal(uint8_t kind) {
 }
 
 uint32_t reference_master_act(const reference_plan *plan, reference_master *master, const reference_master_event *event,
-                              reference_master_answer *answer) {
-    answer->command = REFERENCE_MASTER_NOTHING;
-    answer->lost = 0;
+                              reference_master_reply *reply) {
+    *reply = (reference_master_reply){0};
     if (!master_event_is_right(event)) {
         return 15;
     }
@@ -542,13 +544,13 @@ uint32_t reference_master_act(const reference_plan *plan, reference_master *mast
     }
     switch (event->kind) {
     case REFERENCE_MASTER_TICK:
-        return master_tick(plan, master, answer);
+        return master_tick(plan, master, reply);
     case REFERENCE_MASTER_ANSWER:
-        return master_answer(plan, master, event, answer);
+        return master_answer(plan, master, event, reply);
     case REFERENCE_MASTER_PERMISSION:
         return master_permission(master, event->permission);
     case REFERENCE_MASTER_SLEEP:
-        return master_sleep(plan, master, answer);
+        return master_sleep(plan, master, reply);
     case REFERENCE_MASTER_SEND_RESULT:
         return master_send_result(master, event->sent);
     default: /* a pulse or the own ask to wake */
@@ -557,8 +559,8 @@ uint32_t reference_master_act(const reference_plan *plan, reference_master *mast
 }
 
 uint32_t reference_master_step(const reference_plan *plan, reference_master *master, const reference_master_event *event,
-                               reference_master_answer *answer) {
-    *answer = (reference_master_answer){0};
+                               reference_master_reply *reply) {
+    *reply = (reference_master_reply){0};
     uint32_t refusal = reference_plan_refusal(plan);
     if (refusal != 0) {
         return refusal;
@@ -566,7 +568,7 @@ uint32_t reference_master_step(const reference_plan *plan, reference_master *mas
     if (!reference_master_in_range(plan, master)) {
         return 11;
     }
-    return reference_master_act(plan, master, event, answer);
+    return reference_master_act(plan, master, event, reply);
 }
 
 /* The node */
@@ -672,13 +674,13 @@ static void quiet_tick(const reference_plan *plan, reference_node *node) {
     }
 }
 
-static void caller_tick(const reference_plan *plan, reference_node *node, reference_node_answer *answer) {
+static void caller_tick(const reference_plan *plan, reference_node *node, reference_node_reply *reply) {
     uint32_t recovery = plan->times.recovery;
     if (node->standby_count < 2 * recovery) {
         node->standby_count++;
     }
     if (node->standby_count == recovery) {
-        answer->command = REFERENCE_SEND_PULSE;
+        reply->command = REFERENCE_SEND_PULSE;
     }
     if (node->standby_count == 2 * recovery) {
         show_error(node);
@@ -692,21 +694,21 @@ static void called_tick(const reference_plan *plan, reference_node *node) {
     }
 }
 
-static void tick_without_clock(const reference_plan *plan, reference_node *node, reference_node_answer *answer) {
+static void tick_without_clock(const reference_plan *plan, reference_node *node, reference_node_reply *reply) {
     if (node->state == REFERENCE_NORMAL) {
         quiet_tick(plan, node);
     } else if (node->state == REFERENCE_STANDBY && node->caller) {
-        caller_tick(plan, node, answer);
+        caller_tick(plan, node, reply);
     } else if (node->state == REFERENCE_STANDBY) {
         called_tick(plan, node);
     }
 }
 
-static uint32_t node_tick(const reference_plan *plan, reference_node *node, uint8_t clock, reference_node_answer *answer) {
+static uint32_t node_tick(const reference_plan *plan, reference_node *node, uint8_t clock, reference_node_reply *reply) {
     if (clock) {
         tick_with_clock(plan, node);
     } else {
-        tick_without_clock(plan, node, answer);
+        tick_without_clock(plan, node, reply);
     }
     return 0;
 }
@@ -718,11 +720,11 @@ static uint32_t node_pulse(reference_node *node) {
     return 0;
 }
 
-static uint32_t node_wake(reference_node *node, reference_node_answer *answer) {
+static uint32_t node_wake(reference_node *node, reference_node_reply *reply) {
     node->wake = 1;
     if (node->state == REFERENCE_SLEEP || (node->state == REFERENCE_STANDBY && !node->caller)) {
         enter_standby(node, 1);
-        answer->command = REFERENCE_SEND_PULSE;
+        reply->command = REFERENCE_SEND_PULSE;
     }
     return 0;
 }
@@ -741,30 +743,30 @@ static uint32_t node_sleep_message(reference_node *node) {
     return 0;
 }
 
-static void send_answer(reference_node *node, uint8_t reqid, reference_node_answer *answer) {
-    answer->command = REFERENCE_SEND_ANSWER;
-    answer->permission = node->permission;
-    answer->wake = node->wake;
-    answer->count = node->counts[reqid];
+static void send_answer(reference_node *node, uint8_t reqid, reference_node_reply *reply) {
+    reply->command = REFERENCE_SEND_ANSWER;
+    reply->permission = node->permission;
+    reply->wake = node->wake;
+    reply->count = node->counts[reqid];
     node->wake = 0;
     node->counts[reqid] = (node->counts[reqid] + 1) & 3;
 }
 
 static uint32_t node_request(const reference_plan *plan, uint8_t number, reference_node *node, uint8_t reqid,
-                             reference_node_answer *answer) {
+                             reference_node_reply *reply) {
     const reference_row *row = reference_find_row(plan, reqid);
     if (row == NULL) {
         return 12;
     }
     node->heard = 1;
     if (row->publisher == number) {
-        send_answer(node, reqid, answer);
+        send_answer(node, reqid, reply);
     }
     return 0;
 }
 
 static uint32_t node_send(const reference_plan *plan, uint8_t number, reference_node *node, uint8_t reqid,
-                          reference_node_answer *answer) {
+                          reference_node_reply *reply) {
     const reference_row *row = reference_find_row(plan, reqid);
     if (row == NULL || row->publisher != number) {
         return 12;
@@ -772,7 +774,7 @@ static uint32_t node_send(const reference_plan *plan, uint8_t number, reference_
     if (plan->nodes[number].polled && !node->heard) {
         return 21;
     }
-    send_answer(node, reqid, answer);
+    send_answer(node, reqid, reply);
     return 0;
 }
 
@@ -795,8 +797,8 @@ static bool node_event_needs_normal(uint8_t kind) {
 }
 
 uint32_t reference_node_act(const reference_plan *plan, uint8_t number, reference_node *node, const reference_node_event *event,
-                            reference_node_answer *answer) {
-    *answer = (reference_node_answer){0};
+                            reference_node_reply *reply) {
+    *reply = (reference_node_reply){0};
     if (!node_event_is_right(event)) {
         return 15;
     }
@@ -805,25 +807,25 @@ uint32_t reference_node_act(const reference_plan *plan, uint8_t number, referenc
     }
     switch (event->kind) {
     case REFERENCE_NODE_TICK:
-        return node_tick(plan, node, event->clock, answer);
+        return node_tick(plan, node, event->clock, reply);
     case REFERENCE_NODE_PULSE:
         return node_pulse(node);
     case REFERENCE_NODE_WAKE:
-        return node_wake(node, answer);
+        return node_wake(node, reply);
     case REFERENCE_NODE_PERMISSION:
         return node_permission(node, event->permission);
     case REFERENCE_NODE_SLEEP_MESSAGE:
         return node_sleep_message(node);
     case REFERENCE_NODE_REQUEST:
-        return node_request(plan, number, node, event->reqid, answer);
+        return node_request(plan, number, node, event->reqid, reply);
     default: /* the own ask to send */
-        return node_send(plan, number, node, event->reqid, answer);
+        return node_send(plan, number, node, event->reqid, reply);
     }
 }
 
 uint32_t reference_node_step(const reference_plan *plan, uint8_t number, reference_node *node, const reference_node_event *event,
-                             reference_node_answer *answer) {
-    *answer = (reference_node_answer){0};
+                             reference_node_reply *reply) {
+    *reply = (reference_node_reply){0};
     uint32_t refusal = reference_plan_refusal(plan);
     if (refusal != 0) {
         return refusal;
@@ -831,5 +833,5 @@ uint32_t reference_node_step(const reference_plan *plan, uint8_t number, referen
     if (number >= plan->node_count || !reference_node_in_range(plan, node)) {
         return 11;
     }
-    return reference_node_act(plan, number, node, event, answer);
+    return reference_node_act(plan, number, node, event, reply);
 }

@@ -96,10 +96,12 @@ typedef struct {
 
 enum { REFERENCE_MASTER_NOTHING, REFERENCE_CLOCK_ON, REFERENCE_CLOCK_OFF, REFERENCE_SEND_SLEEP_MESSAGE };
 
+/* What a step gives back. */
 typedef struct {
     uint8_t command;
     uint8_t lost;
-} reference_master_answer;
+    uint8_t node; /* that 20 names */
+} reference_master_reply;
 
 typedef struct {
     uint8_t state;
@@ -135,18 +137,20 @@ typedef struct {
 
 enum { REFERENCE_NODE_NOTHING, REFERENCE_SEND_PULSE, REFERENCE_SEND_ANSWER };
 
+/* What a step gives back; from permission on, the answer that is sent. */
 typedef struct {
     uint8_t command;
     uint8_t permission;
     uint8_t wake;
     uint8_t count;
-} reference_node_answer;
+} reference_node_reply;
 
 /* Reads a set. Returns 0 or a refusal from 1 to 9, which leaves an all-zero record. */
 uint32_t reference_read(const uint8_t *set, size_t length, reference_plan *plan);
 
-/* Writes a set. Returns its length, or a refusal, 4 to 8 or 10, which leaves the buffer untouched. */
-uint32_t reference_write(const reference_plan *plan, uint8_t *set, size_t length);
+/* Writes a set into a buffer of so many bytes. Returns 0 and the set's length; or a refusal, 4 to 8 or 10, which leaves the buffer
+ * untouched, and length 0. */
+uint32_t reference_write(const reference_plan *plan, uint8_t *set, size_t room, uint16_t *length);
 
 /* The first of the refusals 4 to 8 of a plan record, or 0. */
 uint32_t reference_plan_refusal(const reference_plan *plan);
@@ -157,23 +161,23 @@ const reference_row *reference_find_row(const reference_plan *plan, uint8_t reqi
 void reference_master_power_on(reference_master *master);
 bool reference_master_in_range(const reference_plan *plan, const reference_master *master);
 
-/* A step of the master. Returns 0 or the refusal; 20 has the node named in the bits from 8 on. */
+/* A step of the master. Returns 0 or the refusal. */
 uint32_t reference_master_step(const reference_plan *plan, reference_master *master, const reference_master_event *event,
-                               reference_master_answer *answer);
+                               reference_master_reply *reply);
 
 /* The same for a plan and a state that are known to be right. */
 uint32_t reference_master_act(const reference_plan *plan, reference_master *master, const reference_master_event *event,
-                              reference_master_answer *answer);
+                              reference_master_reply *reply);
 
 void reference_node_power_on(reference_node *node);
 bool reference_node_in_range(const reference_plan *plan, const reference_node *node);
 
 /* A step of the node of that number. Returns 0 or the refusal. */
 uint32_t reference_node_step(const reference_plan *plan, uint8_t number, reference_node *node, const reference_node_event *event,
-                             reference_node_answer *answer);
+                             reference_node_reply *reply);
 
 /* The same for a plan, a number and a state that are known to be right. */
 uint32_t reference_node_act(const reference_plan *plan, uint8_t number, reference_node *node, const reference_node_event *event,
-                            reference_node_answer *answer);
+                            reference_node_reply *reply);
 
 #endif

@@ -59,35 +59,33 @@ void reference_unpack_plan(const uint8_t *bytes, reference_plan *plan) {
     memcpy(plan->rows, bytes + 83, sizeof plan->rows);
 }
 
-/* Unpacks and judges a lent plan: 0, 1, or 4 to 8. */
-static uint32_t take_plan(const uint8_t *bytes, size_t length, reference_plan *plan) {
-    if (length != CXPI_PLAN_LENGTH) {
-        return CXPI_WRONG_SIZE;
+/* Unpacks a lent plan; one of another length is the all-zero record. */
+static void take_plan(const uint8_t *bytes, size_t length, reference_plan *plan) {
+    if (length == CXPI_PLAN_LENGTH) {
+        reference_unpack_plan(bytes, plan);
+    } else {
+        memset(plan, 0, sizeof *plan);
     }
-    reference_unpack_plan(bytes, plan);
-    return reference_plan_refusal(plan);
+}
+
+uint32_t reference_cxpi_version(void) {
+    return 1;
 }
 
 uint32_t reference_cxpi_read(const uint8_t *set, size_t set_length, uint8_t *plan, size_t plan_length) {
     reference_plan record;
     uint32_t refusal = reference_read(set, set_length, &record);
-    if (refusal != 0) {
-        return refusal;
-    }
     if (plan_length < CXPI_PLAN_LENGTH) {
-        return CXPI_BUFFER_SHORT;
+        return refusal != CXPI_DONE ? refusal : CXPI_BUFFER_SHORT;
     }
     reference_pack_plan(&record, plan);
-    return CXPI_DONE;
+    return refusal;
 }
 
-uint32_t reference_cxpi_write(const uint8_t *plan, size_t plan_length, uint8_t *set, size_t set_length) {
+uint32_t reference_cxpi_write(const uint8_t *plan, size_t plan_length, uint8_t *set, size_t set_length, uint16_t *length) {
     reference_plan record;
-    if (plan_length != CXPI_PLAN_LENGTH) {
-        return CXPI_WRONG_SIZE;
-    }
-    reference_unpack_plan(plan, &record);
-    return reference_write(&record, set, set_length);
+    take_plan(plan, plan_length, &record);
+    return reference_write(&record, set, set_length, length);
 }
 
 /* The master */
@@ -163,16 +161,20 @@ static bool unpack_master_event(const uint8_t *bytes, size_t length, reference_m
 }
 
 uint32_t reference_cxpi_master_step(const uint8_t *plan, size_t plan_length, uint8_t *state, size_t state_length, const uint8_t *event,
-                                    size_t event_length, uint8_t *answer, size_t answer_length) {
+                                    size_t event_length, uint8_t *reply, size_t reply_length) {
     reference_plan record;
     reference_master master;
     reference_master_event happened;
-    reference_master_answer given;
-    uint32_t refusal = take_plan(plan, plan_length, &record);
+    reference_master_reply given;
+    if (reply_length >= CXPI_MASTER_REPLY_LENGTH) {
+        memset(reply, 0, CXPI_MASTER_REPLY_LENGTH);
+    }
+    take_plan(plan, plan_length, &record);
+    uint32_t refusal = reference_plan_refusal(&record);
     if (refusal != 0) {
         return refusal;
     }
-    if (answer_length < CXPI_MASTER_ANSWER_LENGTH) {
+    if (reply_length < CXPI_MASTER_REPLY_LENGTH) {
         return CXPI_BUFFER_SHORT;
     }
     if (state_length != CXPI_MASTER_LENGTH) {
@@ -189,10 +191,9 @@ uint32_t reference_cxpi_master_step(const uint8_t *plan, size_t plan_length, uin
     if (refusal == CXPI_DONE || refusal == CXPI_DAMAGED || refusal == CXPI_WRONG_LENGTH) {
         reference_pack_master(&master, state);
     }
-    if (refusal == CXPI_DONE) {
-        answer[0] = given.command;
-        answer[1] = given.lost;
-    }
+    reply[0] = given.command;
+    reply[1] = given.lost;
+    reply[2] = given.node;
     return refusal;
 }
 
@@ -266,16 +267,20 @@ static bool unpack_node_event(const uint8_t *bytes, size_t length, reference_nod
 }
 
 uint32_t reference_cxpi_node_step(const uint8_t *plan, size_t plan_length, uint8_t node, uint8_t *state, size_t state_length,
-                                  const uint8_t *event, size_t event_length, uint8_t *answer, size_t answer_length) {
+                                  const uint8_t *event, size_t event_length, uint8_t *reply, size_t reply_length) {
     reference_plan record;
     reference_node machine;
     reference_node_event happened;
-    reference_node_answer given;
-    uint32_t refusal = take_plan(plan, plan_length, &record);
+    reference_node_reply given;
+    if (reply_length >= CXPI_NODE_REPLY_LENGTH) {
+        memset(reply, 0, CXPI_NODE_REPLY_LENGTH);
+    }
+    take_plan(plan, plan_length, &record);
+    uint32_t refusal = reference_plan_refusal(&record);
     if (refusal != 0) {
         return refusal;
     }
-    if (answer_length < CXPI_NODE_ANSWER_LENGTH) {
+    if (reply_length < CXPI_NODE_REPLY_LENGTH) {
         return CXPI_BUFFER_SHORT;
     }
     if (node >= record.node_count || state_length != CXPI_NODE_LENGTH) {
@@ -291,10 +296,10 @@ uint32_t reference_cxpi_node_step(const uint8_t *plan, size_t plan_length, uint8
     refusal = reference_node_act(&record, node, &machine, &happened, &given);
     if (refusal == CXPI_DONE) {
         reference_pack_node(&machine, state);
-        answer[0] = given.command;
-        answer[1] = given.permission;
-        answer[2] = given.wake;
-        answer[3] = given.count;
     }
+    reply[0] = given.command;
+    reply[1] = given.permission;
+    reply[2] = given.wake;
+    reply[3] = given.count;
     return refusal;
 }

@@ -1,4 +1,4 @@
-/* The functions of include/cxpi.h on packed bytes, by the independent implementation: same arguments, same answers. */
+/* The functions of include/cxpi.h on packed bytes, by the independent implementation: same arguments, same results. */
 #ifndef REFERENCE_PACKED_H
 #define REFERENCE_PACKED_H
 
@@ -7,14 +7,15 @@
 
 #include "reference.h"
 
+uint32_t reference_cxpi_version(void);
 uint32_t reference_cxpi_read(const uint8_t *set, size_t set_length, uint8_t *plan, size_t plan_length);
-uint32_t reference_cxpi_write(const uint8_t *plan, size_t plan_length, uint8_t *set, size_t set_length);
+uint32_t reference_cxpi_write(const uint8_t *plan, size_t plan_length, uint8_t *set, size_t set_length, uint16_t *length);
 uint32_t reference_cxpi_master_power_on(uint8_t *state, size_t state_length);
 uint32_t reference_cxpi_node_power_on(uint8_t *state, size_t state_length);
 uint32_t reference_cxpi_master_step(const uint8_t *plan, size_t plan_length, uint8_t *state, size_t state_length, const uint8_t *event,
-                                    size_t event_length, uint8_t *answer, size_t answer_length);
+                                    size_t event_length, uint8_t *reply, size_t reply_length);
 uint32_t reference_cxpi_node_step(const uint8_t *plan, size_t plan_length, uint8_t node, uint8_t *state, size_t state_length,
-                                  const uint8_t *event, size_t event_length, uint8_t *answer, size_t answer_length);
+                                  const uint8_t *event, size_t event_length, uint8_t *reply, size_t reply_length);
 
 /* Packs a plan record into CXPI_PLAN_LENGTH bytes, and back. */
 void reference_pack_plan(const reference_plan *plan, uint8_t *bytes);
