@@ -1,5 +1,5 @@
 #!/bin/sh
-# Makes archives for controllers of the module that module.sh kept: target/firmware/TARGET-VARIANT with libcxpi.a, cxpi.h and origin.txt,
+# Makes archives for controllers of the module that module.sh kept: target/firmware/TARGET-VARIANT with libcxpi.a, its headers and origin.txt,
 # which says where it comes from. Needs the Rattle kit and python3 alone.
 # Run: sh firmware/archives.sh [TARGET-VARIANT].., by default both variants, small and fast, for every controller.
 set -eu
@@ -30,7 +30,7 @@ Bytes of stack that a call takes at most, the C library's functions that it call
 $(cat "$out/work/$1/stack")
 
 SHA-256:
-$(cd "$out/$1" && sha256sum cxpi.h libcxpi.a)
+$(cd "$out/$1" && sha256sum cxpi.h cxpi_text.h libcxpi.a)
 END
 }
 
@@ -48,7 +48,7 @@ for made; do
     work=$out/work/$made
     rm -rf "$work" "${out:?}/$made"
     mkdir -p "$work" "$out/$made"
-    cp include/cxpi.h "$out/$made"
+    cp include/cxpi.h include/cxpi_text.h "$out/$made"
     (
         cd "$work"
         attributes=

@@ -45,7 +45,7 @@ extern "C" {
 
 uint32_t cxpi_version(void);
 
-/* Refusal numbers. */
+/* Refusal numbers. cxpi_text.h has them in words. */
 #define CXPI_DONE 0
 #define CXPI_WRONG_SIZE 1     /* the set's length is not 1,024 or 1,536 */
 #define CXPI_WRONG_CHECK 2    /* a block's check differs */

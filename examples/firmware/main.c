@@ -2,12 +2,13 @@
  *
  * On a real unit the tick is a timer interrupt, the bus is the CXPI driver, and the unit runs the master or one node. Here all of them
  * run in one program, which makes document 01's twelve moves and prints after each the line that document 01 gives, and indented what
- * the machines commanded. Only cxpi.h and the archive are used; see README.md for how to compile. */
+ * the machines commanded. Only the headers and the archive are used; see README.md for how to compile. */
 #include <signal.h>
 #include <stdbool.h>
 #include <stdio.h>
 
 #include "cxpi.h"
+#include "cxpi_text.h"
 
 /* Set T of document 01 as it would stand in flash. */
 static const uint8_t set_in_flash[CXPI_SET_LENGTH_ONE] = {
@@ -276,7 +277,7 @@ int main(int count, char **arguments) {
     }
     uint32_t refusal = read_set(count > 1 ? arguments[1] : NULL);
     if (refusal != CXPI_DONE) {
-        printf("set %u\n", (unsigned)refusal);
+        printf("set %u: %s\n", (unsigned)refusal, cxpi_refusal_text(refusal));
         return 1;
     }
     cxpi_master_power_on(master, sizeof master);

@@ -1,8 +1,9 @@
-// Compile check of the header from C++: it may be included twice and declares every export with C linkage.
+// Compile check of the headers from C++: each may be included twice, and every export is declared with C linkage.
 //
-// Compile: g++ -std=c++17 -Wall -Wextra -Werror -pedantic -Iinclude -c tests/c/header.cpp -o header.o
+// Compile: g++ -std=c++98 -Wall -Wextra -Werror -pedantic -Iinclude -c tests/c/header.cpp -o header.o
+#include "cxpi_text.h"
 #include "cxpi.h"
-#include "cxpi.h"
+#include "cxpi_text.h"
 
 extern "C" {
 uint32_t (*version)() = cxpi_version;
@@ -11,5 +12,6 @@ uint32_t (*write_set)(const uint8_t *, size_t, uint8_t *, size_t, uint16_t *) = 
 uint32_t (*master_power_on)(uint8_t *, size_t) = cxpi_master_power_on;
 uint32_t (*node_power_on)(uint8_t *, size_t) = cxpi_node_power_on;
 uint32_t (*master_step)(const uint8_t *, size_t, uint8_t *, size_t, const uint8_t *, size_t, uint8_t *, size_t) = cxpi_master_step;
+const char *(*refusal_text)(uint32_t) = cxpi_refusal_text;
 uint32_t (*node_step)(const uint8_t *, size_t, uint8_t, uint8_t *, size_t, const uint8_t *, size_t, uint8_t *, size_t) = cxpi_node_step;
 }

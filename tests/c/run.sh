@@ -19,7 +19,7 @@ last_line() {
 
 mkdir -p $out
 # Proves nothing again after rt ci, but for cxpi, which is proved with its archive; its module is kept for the controllers.
-rt check drill replay replay_states > $out/log 2>&1 || { cat $out/log; exit 1; }
+rt check drill replay replay_states show > $out/log 2>&1 || { cat $out/log; exit 1; }
 sh firmware/module.sh
 sh tests/c/symbols.sh $archive include/cxpi.h
 
@@ -39,7 +39,7 @@ for compiler in gcc clang; do
     $out/firmware | cmp - examples/firmware/stdout
     $out/firmware examples/set-t/plan.set | cmp - examples/firmware/stdout
 done
-g++ -std=c++17 -Wall -Wextra -Werror -pedantic -Iinclude -c tests/c/header.cpp -o $out/header.o
+sh tests/c/header.sh
 
 gcc $flags -O2 -Iinclude -I$independent tests/c/compare.c $reference $archive -o $out/compare
 $out/compare
