@@ -29,7 +29,7 @@
  * A buffer that is too short is never written, and bytes past what is written stay in every call.
  *
  * Memory. The caller lends every byte: there is no heap and no data. memcpy and memset of the C library are needed.
- * Stack: a call takes at most 1,900 bytes on a controller, memcpy and memset aside; origin.txt beside an archive has each call's. */
+ * Stack: a call takes at most 1,600 bytes on a controller, memcpy and memset aside; origin.txt beside an archive has each call's. */
 #ifndef CXPI_H
 #define CXPI_H
 
@@ -122,8 +122,7 @@ uint32_t cxpi_write(const uint8_t *plan, size_t plan_length, uint8_t *set, size_
 #define CXPI_STANDBY 1
 #define CXPI_SLEEP 2
 
-/* The phases of a master in Normal; in any other state it is CXPI_OPEN. What speaks against sleep calls back: Sending becomes
- * Withdrawn, and Closing becomes Open. */
+/* The phases of a master in Normal. What speaks against sleep calls back: Sending becomes Withdrawn, and Closing becomes Open. */
 #define CXPI_OPEN 0
 #define CXPI_SENDING 1   /* the sleep message is under way */
 #define CXPI_WITHDRAWN 2 /* it was called back, its result is awaited */
@@ -131,8 +130,8 @@ uint32_t cxpi_write(const uint8_t *plan, size_t plan_length, uint8_t *set, size_
 
 /* A master's state. A state is in range where each field is within its limit, by the plan's N and times. */
 #define CXPI_MASTER_LENGTH 185
-#define CXPI_MASTER_STATE_AT 0      /* the clock is on exactly in CXPI_NORMAL */
-#define CXPI_MASTER_PHASE_AT 1
+#define CXPI_MASTER_STATE_AT 0      /* CXPI_NORMAL, CXPI_STANDBY or CXPI_SLEEP; the clock is on exactly in Normal */
+#define CXPI_MASTER_PHASE_AT 1      /* CXPI_OPEN, CXPI_SENDING, CXPI_WITHDRAWN or CXPI_CLOSING; CXPI_OPEN outside Normal */
 #define CXPI_MASTER_PERMISSION_AT 2 /* its own permission to sleep: 0 or 1 */
 #define CXPI_MASTER_DELAY_AT 3      /* two bytes: ticks in Standby, below C, or in Closing, below D; else 0 */
 #define CXPI_MASTER_TICKS_AT 5      /* four bytes: tick number, any; it returns to 0 after 4,294,967,295 */
@@ -149,13 +148,13 @@ uint32_t cxpi_write(const uint8_t *plan, size_t plan_length, uint8_t *set, size_
 uint32_t cxpi_master_power_on(uint8_t *state, size_t state_length);
 
 /* The events of a master: byte 0 is the kind, then what the event has. */
-#define CXPI_MASTER_TICK 0        /* 1 byte: 1 ms is over; none may be left out */
+#define CXPI_MASTER_TICK 0        /* 1 byte: a millisecond is over; none may be left out */
 #define CXPI_MASTER_ANSWER 1      /* 9 bytes: an answer came, whole or damaged (needs Normal) */
 #define CXPI_MASTER_PULSE 2       /* 1 byte: a wake-up pulse was heard */
 #define CXPI_MASTER_WAKE 3        /* 1 byte: its application asks to wake */
-#define CXPI_MASTER_PERMISSION 4  /* 2 bytes: its application permits sleep, 1, or forbids it, 0 */
+#define CXPI_MASTER_PERMISSION 4  /* 2 bytes: its application permits sleep, 1 yes, 0 no */
 #define CXPI_MASTER_SLEEP 5       /* 1 byte: its application asks for the sleep message (needs Normal) */
-#define CXPI_MASTER_SEND_RESULT 6 /* 2 bytes: the sleep message was sent, 1, or failed, 0 (needs Normal) */
+#define CXPI_MASTER_SEND_RESULT 6 /* 2 bytes: the result of the sleep message, 1 sent, 0 failed (needs Normal) */
 
 /* The lengths of events, a master's or a node's, and where the value of an event of two bytes is. */
 #define CXPI_PLAIN_EVENT_LENGTH 1
@@ -173,9 +172,9 @@ uint32_t cxpi_master_power_on(uint8_t *state, size_t state_length);
 
 /* The reply of a master's step. */
 #define CXPI_MASTER_REPLY_LENGTH 3
-#define CXPI_MASTER_REPLY_COMMAND_AT 0
-#define CXPI_MASTER_REPLY_LOST_AT 1 /* answers lost before this one, 0 to 3 */
-#define CXPI_MASTER_REPLY_NODE_AT 2 /* the node that CXPI_NOT_HELD names, 0 with every other number */
+#define CXPI_MASTER_REPLY_COMMAND_AT 0 /* CXPI_MASTER_NOTHING, CXPI_CLOCK_ON, CXPI_CLOCK_OFF or CXPI_SEND_SLEEP_MESSAGE */
+#define CXPI_MASTER_REPLY_LOST_AT 1    /* answers lost before this one, 0 to 3 */
+#define CXPI_MASTER_REPLY_NODE_AT 2    /* the node that CXPI_NOT_HELD names, 0 with every other number */
 
 /* What a master commands. */
 #define CXPI_MASTER_NOTHING 0
@@ -189,7 +188,7 @@ uint32_t cxpi_master_step(const uint8_t *plan, size_t plan_length, uint8_t *stat
 
 /* A node's state. A state is in range where each field is within its limit, by the plan's times. */
 #define CXPI_NODE_LENGTH 143
-#define CXPI_NODE_STATE_AT 0
+#define CXPI_NODE_STATE_AT 0       /* CXPI_NORMAL, CXPI_STANDBY or CXPI_SLEEP */
 #define CXPI_NODE_PERMISSION_AT 1  /* its permission to sleep: 0 or 1 */
 #define CXPI_NODE_ERROR_AT 2       /* network error: 0 or 1 */
 #define CXPI_NODE_WAKE_AT 3        /* wake bit, which its next answer carries: 0 or 1 */
@@ -205,17 +204,17 @@ uint32_t cxpi_master_step(const uint8_t *plan, size_t plan_length, uint8_t *stat
 uint32_t cxpi_node_power_on(uint8_t *state, size_t state_length);
 
 /* The events of a node: byte 0 is the kind, then what the event has. */
-#define CXPI_NODE_TICK 0          /* 2 bytes: 1 ms is over, with clock, 1, or without, 0 */
+#define CXPI_NODE_TICK 0          /* 2 bytes: a millisecond is over, 1 with clock, 0 without */
 #define CXPI_NODE_PULSE 1         /* 1 byte: a wake-up pulse was heard */
 #define CXPI_NODE_WAKE 2          /* 1 byte: its application asks to wake */
-#define CXPI_NODE_PERMISSION 3    /* 2 bytes: its application permits sleep, 1, or forbids it, 0 */
+#define CXPI_NODE_PERMISSION 3    /* 2 bytes: its application permits sleep, 1 yes, 0 no */
 #define CXPI_NODE_SLEEP_MESSAGE 4 /* 1 byte: the sleep message came (needs Normal) */
 #define CXPI_NODE_REQUEST 5       /* 2 bytes: a request came, ReqId 0 to 127 (needs Normal) */
 #define CXPI_NODE_SEND 6          /* 2 bytes: its application asks to send, ReqId 0 to 127 (needs Normal) */
 
 /* The reply of a node's step. */
 #define CXPI_NODE_REPLY_LENGTH 4
-#define CXPI_NODE_REPLY_COMMAND_AT 0
+#define CXPI_NODE_REPLY_COMMAND_AT 0    /* CXPI_NODE_NOTHING, CXPI_SEND_PULSE or CXPI_SEND_ANSWER */
 #define CXPI_NODE_REPLY_PERMISSION_AT 1 /* with CXPI_SEND_ANSWER its permission bit, else 0 */
 #define CXPI_NODE_REPLY_WAKE_AT 2       /* likewise its wake bit */
 #define CXPI_NODE_REPLY_COUNT_AT 3      /* likewise its sequence count, 0 to 3 */

@@ -1,8 +1,10 @@
 #!/bin/sh
-# Tests the headers: by the oldest and newest standards of C and C++ that they are for, and the refusals' words. Takes the program show.
+# Tests the headers: by the oldest and newest standards of C and C++ that they are for; their numbers against LAYOUTS.md, definitions and
+# archive; the refusals' words. Takes the archive of rt staticlib and the program show.
 set -eu
 cd "$(dirname "$0")/../.."
 out=target/c
+archive=target/staticlib/libcxpi.a
 strict="-Wall -Wextra -Werror -pedantic"
 
 for header in cxpi.h cxpi_text.h; do
@@ -13,6 +15,11 @@ done
 for standard in c++98 c++20; do
     g++ -std=$standard $strict -Iinclude -c tests/c/header.cpp -o $out/header.o
 done
+
+python3 tests/c/check_header.py
+gcc -std=c11 $strict -Iinclude tests/c/probes.c $archive -o $out/probes
+$out/probes
+python3 tests/c/check_header_test.py $archive
 
 gcc -std=c11 $strict -Iinclude tests/c/texts.c -o $out/texts
 python3 tests/c/check_texts.py $out/texts target/bin/show
