@@ -1,6 +1,6 @@
 #!/bin/sh
 # Builds the archive and runs the C tests against it: each export under sanitizers, the comparison with the independent implementation,
-# the header and the symbols, the firmware example; the drill and the replay of recorded moves against independent ones; and the archives
+# the headers and the symbols, the firmware and the station example; the drill and the replay of recorded moves against independent ones; and the archives
 # for controllers. By gcc, and by clang where it is present.
 set -eu
 cd "$(dirname "$0")/../.."
@@ -38,6 +38,8 @@ for compiler in gcc clang; do
     $compiler $flags $checked -Iinclude examples/firmware/main.c $archive -o $out/firmware
     $out/firmware | cmp - examples/firmware/stdout
     $out/firmware examples/set-t/plan.set | cmp - examples/firmware/stdout
+    $compiler $flags $checked -Iinclude examples/station/station.c $archive -o $out/station
+    sh tests/c/station.sh $out/station | cmp - examples/station/stdout
 done
 sh tests/c/header.sh
 
