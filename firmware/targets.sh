@@ -23,7 +23,7 @@ clang_flags() {
 optimisation() {
     case $1 in
     small) echo -Os ;;
-    fast) echo -O2 ;;
+    fast) echo -O3 ;;
     *)
         echo "no variant $1: there are small and fast" >&2
         return 2
