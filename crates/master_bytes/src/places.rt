@@ -1,11 +1,19 @@
 // Where the master's state has its fields: the numbers of specs/Places.
 
 pub const LENGTH: usize = 185;
+
 pub const REPLY_LENGTH: usize = 3;
+
 pub(crate) const STATE_AT: usize = 0;
+
 pub(crate) const PHASE_AT: usize = 1;
+
 pub(crate) const PERMISSION_AT: usize = 2;
+
 pub(crate) const DELAY_AT: usize = 3;
+
 pub(crate) const TICKS_AT: usize = 5;
+
 pub(crate) const HOLDS_AT: usize = 9;
+
 pub(crate) const COUNTS_AT: usize = 57;

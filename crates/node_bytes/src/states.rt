@@ -120,7 +120,10 @@ fn node_from(bytes: &[u8]) -> Node
         caller: byte_at(bytes, CALLER_AT) == 1,
         quiet: number_at(bytes, QUIET_AT),
         delay,
-        standby: long_number(number_at(bytes, STANDBY_AT), number_at(bytes, STANDBY_AT + 2)),
+        standby: long_number(
+            number_at(bytes, STANDBY_AT),
+            number_at(bytes, STANDBY_AT + 2),
+        ),
         counts,
     }
 }

@@ -19,12 +19,7 @@ use plan::Row;
 use plan::Times;
 
 // The bytes before the entries.
-pub fn record_head(
-    revision: u16,
-    nodecount: u8,
-    rowcount: u16,
-    times: Times,
-) -> [u8; ENTRIES_AT]
+pub fn record_head(revision: u16, nodecount: u8, rowcount: u16, times: Times) -> [u8; ENTRIES_AT]
     ensures { λ r. ⌜ r ≡ recordHead revision nodecount rowcount times ⌝ }
 {
     [

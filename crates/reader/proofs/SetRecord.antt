@@ -40,9 +40,9 @@ two-parts f s end d x y z size a b e e2 w long first second none =
     let p : 483 + (end - 400) ≡ 83 + end = omega arith in
     let r : 108 - (end - 400) ≡ 508 - end = omega arith in
     let g : Put 483 108 (λ i. f (400 + i)) x z =
-        put-filled 483 1032 (end - 400) 108 (λ i. f (400 + i)) s x y z (rw m at e2) (rw (p, r) w) (omega arith) (omega arith) (omega (arith, u .size))
-        (λ i q. let t : 1032 + (400 + i - 400) ≡ 1032 + i = omega arith in sym (ap (byte s) t) ∙ second (400 + i) (omega arith) (omega arith))
-        (λ i q h. none (400 + i) (omega arith) (omega arith)) in
+    put-filled 483 1032 (end - 400) 108 (λ i. f (400 + i)) s x y z (rw m at e2) (rw (p, r) w) (omega arith) (omega arith) (omega (arith, u .size))
+    (λ i q. let t : 1032 + (400 + i - 400) ≡ 1032 + i = omega arith in sym (ap (byte s) t) ∙ second (400 + i) (omega arith) (omega arith))
+    (λ i q h. none (400 + i) (omega arith) (omega arith)) in
     put-next 83 400 108 508 f (λ i. f (400 + i)) d x z 483 (put-as 83 400 (λ i. byte s (520 + i)) f d x u first) g refl refl (λ i q. refl)
 
 module _ (s : List ℕ) (count : ℕ) where

@@ -48,12 +48,7 @@ fn rowcount_of(s: &[u8]) -> u16
 fn head_of(s: &[u8]) -> [u8; ENTRIES_AT]
     ensures { λ r. ⌜ r ≡ recordHead (number (now (s .entry)) 2) (byte (now (s .entry)) 4) (rowcountOf (now (s .entry))) (timesFrom (now (s .entry)) 6) ⌝ }
 {
-    plan_bytes::record_head(
-        number_at(s, 2),
-        byte_at(s, 4),
-        rowcount_of(s),
-        times_of(s),
-    )
+    plan_bytes::record_head(number_at(s, 2), byte_at(s, 4), rowcount_of(s), times_of(s))
 }
 
 fn least(a: usize, b: usize) -> usize

@@ -128,7 +128,8 @@ fn message_filler(s: &[u8], b: usize) -> bool
     ensures { λ r. ⌜ r ≡ allTo (messageFillerAt (now (s .entry)) b) blockLength ⌝ }
 {
     let start = filler_start(8, byte_at(s, BLOCK_LENGTH * b + 4));
-    are_zero(s, BLOCK_LENGTH * b + 5, 3) & are_zero(s, BLOCK_LENGTH * b + start as usize, 510 - start)
+    are_zero(s, BLOCK_LENGTH * b + 5, 3)
+        & are_zero(s, BLOCK_LENGTH * b + start as usize, 510 - start)
 }
 
 fn filler_right(s: &[u8]) -> bool

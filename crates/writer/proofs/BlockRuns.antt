@@ -76,7 +76,7 @@ module _ (s : List ℕ) (size : length s ≡ 591) where
       let same : 19 + 4 * n - 19 ≡ 4 * n = omega arith in
       let l : length x ≡ length d = ap length h1 ∙ length-sets d 0 head in
       let a : Put 32 (4 * n) (entryByteAt (recordOf s .nodes)) x y = put-as 32 (4 * n) (λ i. byte s (19 + i)) (entryByteAt (recordOf s .nodes)) x y
-          (put-slice 32 19 (4 * n) s x y (rw same at h2) (omega arith) (omega arith)) (λ i q. sym (entry-in s size i (omega arith))) in
+      (put-slice 32 19 (4 * n) s x y (rw same at h2) (omega arith) (omega arith)) (λ i q. sym (entry-in s size i (omega arith))) in
       plan-put (recordOf s) d x y z head (omega arith) long e h1 (rw is at a) (rw is at h3)
 
   pub message-put-from : (b n : ℕ) (d x y z head : List ℕ) → 1 ≤ b → n ≡ rowsIn (recordOf s .rowcount) b → n ≤ 100 → 100 * (b - 1) + n ≤ 127 → 512 * b + 512 ≤ length d
@@ -88,7 +88,7 @@ module _ (s : List ℕ) (size : length s ≡ 591) where
       let same : first + 4 * n - first ≡ 4 * n = omega arith in
       let l : length x ≡ length d = ap length h1 ∙ length-sets d (512 * b) head in
       let a : Put (512 * b + 8) (4 * n) (rowByteFrom (recordOf s .rows) (100 * (b - 1))) x y =
-          put-as (512 * b + 8) (4 * n) (λ i. byte s (first + i)) (rowByteFrom (recordOf s .rows) (100 * (b - 1))) x y
-          (put-slice (512 * b + 8) first (4 * n) s x y (rw same at h2) (omega arith) (omega arith))
-          (λ i q. let t : 83 + 4 * (100 * (b - 1)) + i ≡ first + i = omega arith in sym (row-in s size (100 * (b - 1)) i (omega arith) ∙ ap (byte s) t)) in
+      put-as (512 * b + 8) (4 * n) (λ i. byte s (first + i)) (rowByteFrom (recordOf s .rows) (100 * (b - 1))) x y
+      (put-slice (512 * b + 8) first (4 * n) s x y (rw same at h2) (omega arith) (omega arith))
+      (λ i q. let t : 83 + 4 * (100 * (b - 1)) + i ≡ first + i = omega arith in sym (row-in s size (100 * (b - 1)) i (omega arith) ∙ ap (byte s) t)) in
       message-put (recordOf s) b n d x y z head is few long e h1 a h3

@@ -21,7 +21,7 @@ plan-of-requires : tie.Need-plan-of-requires
 plan-of-requires c κs = search needs
 
 returns : tie.Need-returns
-returns c = 
+returns c =
     let a = c .before .before .before .read-record .ensures in
     λ i. record { refusal = (a .0 ∙ read-number (c .before .before .before .before .before .before .args .set .now) 591 (omega arith)) i; plan = (c .plan-of .ensures ∙ ap recordOf (a .1) ∙ read-back (c .before .before .before .before .before .before .args .set .now) (replicate 591 0) refl) i }
 

@@ -27,7 +27,7 @@ set-length-requires : tie.Need-set-length-requires
 set-length-requires c κs = search needs
 
 put-data-requires : tie.Need-put-data-requires
-put-data-requires c κs = 
+put-data-requires c κs =
     let p = recordOf (c .before .before .before .before .before .before .before .args .plan .now) in
     let w = room p _ (none (c .before .before .before)) in
     let a = accepted p (w .0) in
@@ -43,7 +43,7 @@ same-length : tie.Need-same-length
 same-length c = search needs
 
 returns-2 : tie.Need-returns-2
-returns-2 c = 
+returns-2 c =
     let p = recordOf (c .before .before .before .before .before .before .before .before .before .before .before .before .before .before .args .plan .now) in
     let e = none (c .before .before .before .before .before .before .before .before .before .before) in
     let r = c .before .before .before .before .before .before .before .before .before .row-count .ensures in

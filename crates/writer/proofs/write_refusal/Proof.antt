@@ -19,12 +19,12 @@ set-length-requires : tie.Need-set-length-requires
 set-length-requires c κs = search needs
 
 returns-2 : tie.Need-returns-2
-returns-2 c = 
+returns-2 c =
     let z : c .before .before .before .before .refusal-of .result ≡ 0 = search needs in
     sym (short-refused (recordOf (c .before .before .before .before .before .before .args .plan .now)) (c .before .before .before .before .before .before .args .room) (sym (c .before .before .before .before .refusal-of .ensures) ∙ z) (rw (c .before .before .row-count .ensures) at (rw (c .before .set-length .ensures) at (c .if2 .taken))))
 
 returns-3 : tie.Need-returns-3
-returns-3 c = 
+returns-3 c =
     let z : c .before .before .before .before .refusal-of .result ≡ 0 = search needs in
     sym (room-given (recordOf (c .before .before .before .before .before .before .args .plan .now)) (c .before .before .before .before .before .before .args .room) (sym (c .before .before .before .before .refusal-of .ensures) ∙ z) (rw (c .before .before .row-count .ensures) at (rw (c .before .set-length .ensures) at (c .if2 .left))))
 

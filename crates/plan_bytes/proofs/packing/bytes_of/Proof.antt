@@ -38,7 +38,7 @@ returns : tie.Need-returns
 returns c =
     let p = c .before .before .before .before .before .before .before .before .before .before .before .before .before .args .p in
     let e = record-put p (replicate 591 0) _ _ _ _ (omega arith) (c .before .before .before .before .before .before .before .before .before .before .record-head .ensures) (c .before .before .before .before .before .before .before .put .ensures) (c .before .before .before .before .put-entries .ensures .0) (c .before .put-rows .ensures .0)
-        ∙ record-whole p (replicate 591 0) refl in
+    ∙ record-whole p (replicate 591 0) refl in
     (e, ap recordOf e ∙ record-back p (c .before .before .before .before .put-entries .ensures .1) (c .before .put-rows .ensures .1))
 
 pub bytes-of-spec : {M : Type 1} → statement M

@@ -48,11 +48,10 @@ loop-again : tie.Need-loop-again Inv-loop μ-loop
 loop-again c =
     let l = c .before .before .before .before .before .before .loop in
     let rows = c .before .before .before .before .before .before .before .before .args .t2 in
-    let z : l .j ≡ 0 + l .j = omega arith in
-    (
+    let z : l .j ≡ 0 + l .j = omega arith in (
       search needs,
       put-next rowsAt (4 * l .j) 4 _ _ _ _ _ _ _ (l .inv .1) (c .before .before .put-four .ensures) refl (omega arith)
-      (λ i p. ap (λ x. byte (rowBytes (rowAt rows x)) i) z ∙ row-four rows 0 (l .j) i p),
+          (λ i p. ap (λ x. byte (rowBytes (rowAt rows x)) i) z ∙ row-four rows 0 (l .j) i p),
     )
 
 same-length : tie.Need-same-length Inv-loop μ-loop

@@ -25,7 +25,7 @@ same-length : tie.Need-same-length
 same-length c = search needs
 
 returns : tie.Need-returns
-returns c = 
+returns c =
     let p = recordOf (c .before .before .before .before .before .before .before .before .before .before .before .before .before .before .before .before .args .plan .now) in
     let e : setLength (p .rowcount) ≡ 1536 = length-long (p .rowcount) (omega (arith, c .before .before .before .before .before .row-count .ensures)) in
     rw e (long-put p _ _ _ _ (c .before .before .before .before .before .before .before .before .before .before .before .before .put-plan .ensures) (c .before .before .before .before .before .before .before .before .put-message .ensures) (c .before .before .put-message2 .ensures) (omega arith))
@@ -34,7 +34,7 @@ same-length-2 : tie.Need-same-length-2
 same-length-2 c = search needs
 
 returns-2 : tie.Need-returns-2
-returns-2 c = 
+returns-2 c =
     let p = recordOf (c .before .before .before .before .before .before .before .before .before .before .before .before .args .plan .now) in
     let e : setLength (p .rowcount) ≡ 1024 = length-short (p .rowcount) (omega (arith, c .before .row-count .ensures)) in
     rw e (short-put p _ _ _ (c .before .before .before .before .before .before .before .before .put-plan .ensures) (c .before .before .before .before .put-message .ensures) (omega arith))

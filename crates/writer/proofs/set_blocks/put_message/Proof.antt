@@ -87,7 +87,7 @@ same-length : tie.Need-same-length
 same-length c = search needs
 
 returns : tie.Need-returns
-returns c = 
+returns c =
     let e = c .before .before .before .before .before .before .before .before .before .before .before .before .before .before .before .before .before .row-count .ensures in
     message-put-from (c .before .before .before .before .before .before .before .before .before .before .before .before .before .before .before .before .before .before .before .before .args .plan .now) (search needs) _ _ _ _ _ _ _ (search needs) (rw e at (c .before .before .before .before .before .before .before .before .before .before .before .before .before .before .before .before .rows-in .ensures .0)) (c .before .before .before .before .before .before .before .before .before .before .before .before .before .before .before .before .rows-in .ensures .1) (c .before .before .before .before .before .before .before .before .before .before .before .before .before .before .before .before .rows-in .ensures .2) (search needs) (c .before .before .before .before .before .before .before .before .before .before .before .before .before .before .message-head .ensures ∙ rw (c .before .before .before .before .before .before .before .before .before .before .before .before .before .before .before .revision-of .ensures, e)) (c .before .before .before .before .before .before .before .before .before .before .before .put .ensures) (c .before .before .before .before .before .before .put2 .ensures) (c .before .before .put-zeros .ensures)
 
