@@ -14,4 +14,5 @@ uint32_t (*node_power_on)(uint8_t *, size_t) = cxpi_node_power_on;
 uint32_t (*master_step)(const uint8_t *, size_t, uint8_t *, size_t, const uint8_t *, size_t, uint8_t *, size_t) = cxpi_master_step;
 const char *(*refusal_text)(uint32_t) = cxpi_refusal_text;
 uint32_t (*node_step)(const uint8_t *, size_t, uint8_t, uint8_t *, size_t, const uint8_t *, size_t, uint8_t *, size_t) = cxpi_node_step;
+uint32_t (*node_configure)(const uint8_t *, size_t, uint8_t *, const uint8_t *, size_t, uint8_t *, size_t, uint8_t *) = cxpi_node_configure;
 }

@@ -1,4 +1,5 @@
 pub mod Chains
+pub mod ConfigurationCalls
 pub mod MasterCalls
 pub mod NodeCalls
 pub mod Version
