@@ -5,6 +5,7 @@
 #include "cxpi.h"
 
 #ifdef CXPI_REFERENCE
+#include "configuration.h"
 #include "reference_packed.h"
 #define cxpi_version reference_cxpi_version
 #define cxpi_read reference_cxpi_read
@@ -13,6 +14,7 @@
 #define cxpi_node_power_on reference_cxpi_node_power_on
 #define cxpi_master_step reference_cxpi_master_step
 #define cxpi_node_step reference_cxpi_node_step
+#define cxpi_node_configure reference_cxpi_node_configure
 #endif
 
 #endif
