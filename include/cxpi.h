@@ -44,7 +44,7 @@ extern "C" {
 #endif
 
 /* The version of calls and layouts, which each change of either raises. A host compares the archive's with its header's at start. */
-#define CXPI_VERSION 1
+#define CXPI_VERSION 2
 
 uint32_t cxpi_version(void);
 
