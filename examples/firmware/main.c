@@ -2,7 +2,7 @@
  *
  * On a real unit the tick is a timer interrupt, the bus is the CXPI driver, and the unit runs the master or one node. Here all of them
  * run in one program, which makes document 01's twelve moves and prints after each the line that document 01 gives, and indented what
- * the machines commanded. Only the headers and the archive are used; see README.md for how to compile. */
+ * the machines commanded; then a master takes the events of a frame slot in one call. Only the headers and the archive are used; see README.md for how to compile. */
 #include <signal.h>
 #include <stdbool.h>
 #include <stdio.h>
@@ -270,6 +270,28 @@ static uint32_t read_set(const char *path) {
     return cxpi_read(set, length, plan, sizeof plan);
 }
 
+/* What a unit gathered between two interrupts, handed over in one call: from power-on to the clock's stop. */
+static void frame_slot(void) {
+    static const struct cxpi_master_event queue[] = {
+        {.kind = CXPI_MASTER_WAKE},
+        {.kind = CXPI_MASTER_TICK},
+        {.kind = CXPI_MASTER_ANSWER, .reqid = 16, .length = 2, .permission = 1},
+        {.kind = CXPI_MASTER_SLEEP},
+        {.kind = CXPI_MASTER_PERMISSION, .flag = 1},
+        {.kind = CXPI_MASTER_SLEEP},
+        {.kind = CXPI_MASTER_SEND_RESULT, .flag = 1},
+        {.kind = CXPI_MASTER_TICK},
+        {.kind = CXPI_MASTER_TICK},
+    };
+    enum { EVENTS = sizeof queue / sizeof queue[0] };
+    struct cxpi_master_reply replies[EVENTS];
+    cxpi_master_power_on(master, sizeof master);
+    cxpi_master_batch(plan, sizeof plan, master, sizeof master, queue, EVENTS, replies, EVENTS);
+    for (unsigned place = 0; place < EVENTS; place++) {
+        printf("event %u: refusal %u, command %u\n", place, replies[place].refusal, replies[place].command);
+    }
+}
+
 int main(int count, char **arguments) {
     if (cxpi_version() != CXPI_VERSION) {
         printf("the archive and the header differ in their version\n");
@@ -285,5 +307,6 @@ int main(int count, char **arguments) {
         cxpi_node_power_on(nodes[node], sizeof nodes[node]);
     }
     main_loop();
+    frame_slot();
     return 0;
 }
