@@ -63,6 +63,9 @@ act p m e = actWith (p .nodecount) (p .times) (rowAsked p e) m e
 abbrev pub stepUnder : Plan → Master → Event → Reply
 stepUnder p m e = stepWith (p .nodecount) (p .times) (rowAsked p e) m e
 
--- "plan 4 to 8 first"
+-- "plan 4 to 8 first", where the plan's number is known
+abbrev pub judgedStep : ℕ → Plan → Master → Event → Reply
+judgedStep refusal p m e = pick (eqb refusal 0) (stepUnder p m e) (refuse m refusal)
+
 abbrev pub masterStep : Plan → Master → Event → Reply
-masterStep p m e = pick (eqb (planRefusal p) 0) (stepUnder p m e) (refuse m (planRefusal p))
+masterStep p m e = judgedStep (planRefusal p) p m e

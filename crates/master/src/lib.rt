@@ -1,7 +1,7 @@
 // The master machine.
 ghost use mathlib.Core.Path.{_≡_};
 ghost use Rattle.master.specs.Changes.{powerOn, silent, commands, refuse};
-ghost use Rattle.master.specs.Step.{eventRight, rowAsked, actWith, stepWith, stepUnder, masterStep};
+ghost use Rattle.master.specs.Step.{eventRight, rowAsked, actWith, stepWith, stepUnder, judgedStep, masterStep};
 use machine::State;
 use plan::Lookup;
 use plan::Plan;
@@ -212,15 +212,21 @@ impl Master {
         self.step_with(plan.nodecount, times, row, event)
     }
 
-    // A step of the master under a plan.
-    pub fn step(self, plan: Plan, event: Event) -> Reply
-        ensures { λ r. ⌜ r ≡ masterStep plan self event ⌝ }
+    // A step of the master under a plan whose refusal is known, so that a list of events has it judged once.
+    pub fn step_judged(self, refusal: u8, plan: Plan, event: Event) -> Reply
+        ensures { λ r. ⌜ r ≡ judgedStep refusal plan self event ⌝ }
     {
-        let refusal = plan_refusal(plan);
         if refusal == 0 {
             self.step_under(plan, event)
         } else {
             refuse(self, refusal)
         }
+    }
+
+    // A step of the master under a plan.
+    pub fn step(self, plan: Plan, event: Event) -> Reply
+        ensures { λ r. ⌜ r ≡ masterStep plan self event ⌝ }
+    {
+        self.step_judged(plan_refusal(plan), plan, event)
     }
 }
