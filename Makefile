@@ -35,11 +35,12 @@ firmware:
 	@sh firmware/module.sh
 	@sh firmware/archives.sh
 
-# Makes the test sets, the machines' cases, the lists of moves, the recorded moves, the drill's scripts and what must be printed of them
+# Makes the test sets, the machines' cases, the lists of events, the lists of moves, the recorded moves, the drill's scripts and what must be printed of them
 # anew, from document 01 (needs python3).
 cases:
 	python3 tests/sets/make.py
 	python3 tests/machines/make.py
+	python3 tests/batches/make.py
 	python3 tests/runs/make.py
 	python3 tests/replay/make.py
 	python3 tests/drills/make.py
