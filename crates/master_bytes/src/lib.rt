@@ -8,6 +8,7 @@ pub use events::event_of;
 pub use places::LENGTH;
 pub use places::REPLY_LENGTH;
 pub use replies::put_reply;
+pub use states::hold_of;
 pub use states::master_of;
 pub use states::put_master;
 pub use states::put_power_on;
