@@ -5,8 +5,13 @@ mod replies;
 mod states;
 
 pub use events::event_of;
+pub use places::COUNTS_AT;
+pub use places::HOLDS_AT;
 pub use places::LENGTH;
+pub use places::PHASE_AT;
 pub use places::REPLY_LENGTH;
+pub use places::STATE_AT;
+pub use places::TICKS_AT;
 pub use replies::put_reply;
 pub use states::hold_of;
 pub use states::master_of;
