@@ -1,3 +1,4 @@
+pub mod BatchCalls
 pub mod Chains
 pub mod MasterCalls
 pub mod NodeCalls

@@ -2,6 +2,7 @@
 ghost use mathlib.Core.Path.{_≡_};
 ghost use Rattle.cxpi.specs.Version.{version};
 
+mod batches;
 mod masters;
 mod nodes;
 mod sets;

@@ -41,7 +41,7 @@ fn refused(refusal: u8) -> Reply
 }
 
 // The row that an event asks the plan for.
-fn row_for(plan: &[u8], event: Event) -> Lookup
+pub(crate) fn row_for(plan: &[u8], event: Event) -> Lookup
     ensures { λ r. ⌜ r ≡ rowAsked (recordOf (now (plan .entry))) event ⌝ }
 {
     match event {
