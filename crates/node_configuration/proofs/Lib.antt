@@ -1,0 +1,4 @@
+pub mod Laws
+pub mod ReadBack
+pub mod Vectors
+pub mod Ways

@@ -1,0 +1,4 @@
+pub mod Answers
+pub mod Identity
+pub mod Places
+pub mod Requests
