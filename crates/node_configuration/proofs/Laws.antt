@@ -31,8 +31,8 @@ module _ (s : List ℕ) (e : isAssign s ≡ true) where
   not-refused n = rw (e, n, writes)
 
   refused : eqb (length s) 8 ≡ false → requestRefusal s ≡ 23
-  unfolding requestRefusal wrongLength
-  refused n = rw (writes, n, or-true (eqb (length s) 0))
+  unfolding requestRefusal wrongLength isKnown
+  refused n = rw (e, writes, n, or-true (eqb (length s) 0))
 
 module _ (i : Identity) (address : ℕ) (s : List ℕ) where
   taken-in-range : takesAssign i s ≡ true → inRange 1 125 (newAddress s) ≡ true
@@ -56,13 +56,17 @@ module _ (i : Identity) (address : ℕ) (s : List ℕ) where
       go true u true v = no-way (let z : true ≡ false = rw (u, v) at n in sym z)
       go true u false v = rw (refused s u v)
 
+  unanswered : isAssign s ≡ true → takesAssign i s ≡ false → answerTo i s ≡ []
+  unfolding answerTo
+  unanswered e n = rw (n, no-read s e nodeProductIdentification, no-read s e nodeSerialNumberIdentification)
+
   -- an assign that is not taken meets silence, in any buffer
   pub silent : (room : ℕ) → isAssign s ≡ true → length s ≡ 8 → takesAssign i s ≡ false
       → configured i address s room ≡ record { refusal = 0; length = 0; address = address }
-  unfolding configured configureRefusal answerTo addressAfter
+  unfolding configured configureRefusal addressAfter
   silent room e l n =
       let fits : ltb room 0 ≡ false = le-ltb room 0 (omega arith) in
-      rw (not-refused s e l, n, no-read s e nodeProductIdentification, no-read s e nodeSerialNumberIdentification, fits)
+      rw (not-refused s e l, unanswered e n, fits, n)
 
   -- no answer starts with 7F hex, to an assign or to a read
   pub never-negative : byte (answerTo i s) 0 ≡ 0x7f → ⊥
@@ -82,10 +86,10 @@ module _ (i : Identity) (address : ℕ) (s : List ℕ) where
       by-test (λ (r : Reply). (r .refusal ≡ 0 → ⊥) → r .length ≡ 0) (eqb (configureRefusal i s room) 0) (λ _ n. absurd (n refl)) (λ _ _. refl)
 
   -- without an answer the address stays
-  unanswered : (b : Bool) → takesAssign i s ≡ b → length (answerTo i s) ≡ 0 → addressAfter i address s ≡ address
+  unassigned : (b : Bool) → takesAssign i s ≡ b → length (answerTo i s) ≡ 0 → addressAfter i address s ≡ address
   unfolding answerTo addressAfter
-  unanswered true u = rw u (λ e. absurd (omega arith))
-  unanswered false u = rw u (λ _. refl)
+  unassigned true u = rw u (λ e. absurd (omega arith))
+  unassigned false u = rw u (λ _. refl)
 
   -- refused or met by silence: address and buffer stay
   pub no-answer-keeps : (buffer : List ℕ) → configured i address s (length buffer) .length ≡ 0
@@ -99,5 +103,5 @@ module _ (i : Identity) (address : ℕ) (s : List ℕ) where
 
       go : (b : Bool) → eqb (configureRefusal i s (length buffer)) 0 ≡ b
           → configured i address s (length buffer) .length ≡ 0 → (configured i address s (length buffer) .address ≡ address) × (answered i s buffer ≡ buffer)
-      go true u = rw u (λ none. (unanswered (takesAssign i s) refl none, empty (answerTo i s) none))
+      go true u = rw u (λ none. (unassigned (takesAssign i s) refl none, empty (answerTo i s) none))
       go false u = rw u (λ _. (refl, refl))
