@@ -35,12 +35,13 @@ firmware:
 	@sh firmware/module.sh
 	@sh firmware/archives.sh
 
-# Makes the test sets, the machines' cases, the lists of events, the lists of moves, the recorded moves, the drill's scripts and what must be printed of them
-# anew, from document 01 (needs python3).
+# Makes the test sets, the machines' cases, the lists of events, the requests to a node, the lists of moves, the recorded moves, the drill's
+# scripts and what must be printed of them anew, from documents 01 and 02 (needs python3).
 cases:
 	python3 tests/sets/make.py
 	python3 tests/machines/make.py
 	python3 tests/batches/make.py
+	python3 tests/configuration/make.py
 	python3 tests/runs/make.py
 	python3 tests/replay/make.py
 	python3 tests/drills/make.py
