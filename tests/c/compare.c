@@ -9,60 +9,10 @@
 #include <stdio.h>
 #include <stdlib.h>
 
+#include "chance.h"
 #include "lent.h"
 #include "reference_packed.h"
 #include "subject.h"
-
-/* Chance: Marsaglia's xorshift */
-
-static uint64_t chance_state;
-
-static uint64_t chance(void) {
-    chance_state ^= chance_state << 13;
-    chance_state ^= chance_state >> 7;
-    chance_state ^= chance_state << 17;
-    return chance_state;
-}
-
-static uint32_t below(uint32_t limit) {
-    return (uint32_t)((chance() >> 32) * limit >> 32);
-}
-
-static uint32_t between(uint32_t low, uint32_t high) {
-    return low + below(high - low + 1);
-}
-
-static bool percent(uint32_t share) {
-    return below(100) < share;
-}
-
-static uint8_t random_byte(void) {
-    return (uint8_t)(chance() >> 32);
-}
-
-static void random_bytes(uint8_t *bytes, size_t length) {
-    for (size_t offset = 0; offset < length; offset++) {
-        bytes[offset] = random_byte();
-    }
-}
-
-/* A byte that differs a little or a lot. */
-static uint8_t another_byte(uint8_t byte) {
-    switch (below(6)) {
-    case 0:
-        return (uint8_t)(byte + 1);
-    case 1:
-        return (uint8_t)(byte - 1);
-    case 2:
-        return 0;
-    case 3:
-        return 255;
-    case 4:
-        return (uint8_t)(byte ^ 1 << below(8));
-    default:
-        return random_byte();
-    }
-}
 
 static void put_two(uint8_t *bytes, uint32_t number) {
     bytes[0] = (uint8_t)(number >> 8);
@@ -919,7 +869,7 @@ int main(int count, char **arguments) {
     uint64_t steps = argument(count, arguments, 1, 10000000);
     uint64_t sets = argument(count, arguments, 2, 1000000);
     uint64_t seed = argument(count, arguments, 3, 1);
-    chance_state = seed * 0x9E3779B97F4A7C15u | 1;
+    chance_seed(seed);
     compare_power_ons();
     compare_sets(sets);
     compare_steps(steps);
