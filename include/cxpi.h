@@ -1,7 +1,8 @@
-/* CXPI network management for C firmware: release sets, the master machine and the node machine.
+/* CXPI network management for C firmware: release sets, the master machine, the node machine and the node configuration.
  *
  * A release set is read into a plan record. A unit keeps the packed state of the master, or of its node, and steps it by each event: a
- * tick of 1 ms, a message, a wish of its application. A step leaves the next state, and a reply that says what the unit is to do.
+ * tick of 1 ms, a message, a wish of its application. A step leaves the next state, and a reply that says what the unit is to do. A
+ * node keeps its identity and its address beside its state, and takes requests of the node configuration by a call of their own.
  * Numbers of more than one byte are big-endian, and a flag is 0 or 1. Names in _AT are offsets, names in _LENGTH lengths in bytes.
  *
  * Calls. A call takes any bytes of any length, ends, and returns one refusal number and nothing else: CXPI_DONE where it did what it
@@ -10,24 +11,25 @@
  *
  * Order. A call returns the first of its numbers that applies:
  *
- *   cxpi_read         1 to 9 of the set, each over all blocks; 10 for the plan buffer
- *   cxpi_write        4 to 8 of the plan record; 10 for the set buffer
- *   cxpi_*_power_on   10 for the state buffer
- *   cxpi_*_step       4 to 8 of the plan record; 10 for the reply buffer; 11; 15; 16; the rest by number: 12, 13, 14, 17 to 21
- *   cxpi_master_batch 22; the numbers of a step stand in the reply records, in a step's order
+ *   cxpi_read             1 to 9 of the set, each over all blocks; 10 for the plan buffer
+ *   cxpi_write            4 to 8 of the plan record; 10 for the set buffer
+ *   cxpi_*_power_on       10 for the state buffer
+ *   cxpi_*_step           4 to 8 of the plan record; 10 for the reply buffer; 11; 15; 16; the rest by number: 12, 13, 14, 17 to 21
+ *   cxpi_master_batch     22; the numbers of a step stand in the reply records, in a step's order
+ *   cxpi_node_configure   11 for another length of the identity; 23; 24; 10 for the answer buffer
  *
  * A plan record of another length than CXPI_PLAN_LENGTH is taken for the all-zero record, which is 4. A state of another length is 11,
  * an event of another length 15. A buffer that is to be written may be longer than what is written.
  *
  * What a refusal leaves. Nothing of before can be taken for a result:
  *
- *   cxpi_read         after 1 to 9 the all-zero record, which the other calls refuse; after 10 the plan buffer as it was
- *   cxpi_write        length 0, and the set buffer as it was
- *   cxpi_*_power_on   the state buffer as it was
- *   cxpi_*_step       in the reply zeros, which are no command and none lost, but for the node that 20 names; the state as it was, but
- *                     that 13 and 14 change the master's
- *
- *   cxpi_master_batch after 22 every byte as it was; an event that is refused leaves what its step leaves, and those after it still run
+ *   cxpi_read             after 1 to 9 the all-zero record, which the other calls refuse; after 10 the plan buffer as it was
+ *   cxpi_write            length 0, and the set buffer as it was
+ *   cxpi_*_power_on       the state buffer as it was
+ *   cxpi_*_step           in the reply zeros, which are no command and none lost, but for the node that 20 names; the state as it was,
+ *                         but that 13 and 14 change the master's
+ *   cxpi_master_batch     after 22 every byte as it was; an event that is refused leaves what its step leaves, and those after it run
+ *   cxpi_node_configure   length 0, address and answer buffer as they were
  *
  * A buffer that is too short is never written, and bytes past what is written stay in every call.
  *
@@ -60,7 +62,7 @@ uint32_t cxpi_version(void);
 #define CXPI_NO_ROW_OF_NODE 8 /* a node publishes nothing */
 #define CXPI_FILLER 9         /* filler not zero */
 #define CXPI_BUFFER_SHORT 10  /* buffer too short for what is to be written */
-#define CXPI_NO_STATE 11      /* bytes that are no state, a state out of range, or a node number not below N */
+#define CXPI_NO_STATE 11      /* bytes that are no state or no identity, a state out of range, or a node number not below N */
 #define CXPI_NO_REQID 12      /* ReqId not in the plan; a master's row in an answer; another's row in an ask to send */
 #define CXPI_DAMAGED 13       /* answer's result is not 0; the master lets its publisher's permission go and calls back */
 #define CXPI_WRONG_LENGTH 14  /* answer's length is not the row's; the same */
@@ -72,6 +74,8 @@ uint32_t cxpi_version(void);
 #define CXPI_NOT_HELD 20      /* a node's permission is not held; CXPI_MASTER_REPLY_NODE_AT has the lowest such node */
 #define CXPI_NOT_ASKED 21     /* polled node not yet asked */
 #define CXPI_REPLIES_SHORT 22 /* fewer reply records than event records */
+#define CXPI_WRONG_REQUEST 23 /* request empty, of 2E hex and not 8 bytes long, or of 22 hex and not 3 */
+#define CXPI_NOT_SUPPORTED 24 /* request of any other service or identifier */
 
 /* Most of what there can be. */
 #define CXPI_MOST_NODES 16
@@ -258,6 +262,40 @@ uint32_t cxpi_node_power_on(uint8_t *state, size_t state_length);
 /* A step of the node of that number, 0 to N - 1, under a plan. */
 uint32_t cxpi_node_step(const uint8_t *plan, size_t plan_length, uint8_t node, uint8_t *state, size_t state_length,
                         const uint8_t *event, size_t event_length, uint8_t *reply, size_t reply_length);
+
+/* A node's identity. Its address is a byte of its own, any value; no step reads either. */
+#define CXPI_IDENTITY_LENGTH 9
+#define CXPI_IDENTITY_SUPPLIER_AT 0      /* two bytes */
+#define CXPI_IDENTITY_FUNCTION_AT 2      /* two bytes */
+#define CXPI_IDENTITY_VARIANT_AT 4
+#define CXPI_IDENTITY_SERIAL_NUMBER_AT 5 /* four bytes */
+
+/* The services of the node configuration. */
+#define CXPI_READ_DATA_BY_IDENTIFIER 0x22
+#define CXPI_WRITE_DATA_BY_IDENTIFIER 0x2E
+
+/* The identifiers of ISO 14229-8, Table A.1. A node takes the first three. */
+#define CXPI_ASSIGN_NODE_ADDRESS 0xFF07               /* written */
+#define CXPI_NODE_PRODUCT_IDENTIFICATION 0xFF05       /* read */
+#define CXPI_NODE_SERIAL_NUMBER_IDENTIFICATION 0xF18C /* read */
+#define CXPI_ASSIGN_FRAME_IDENTIFIER_RANGE 0xFF02
+#define CXPI_SAVE_CONFIGURATION 0xFF03
+#define CXPI_NODE_CONFIGURATION_FILE_AVAILABILITY 0xFF04
+#define CXPI_DATA_DUMP 0xFF06
+
+/* The longest answer of the node configuration. */
+#define CXPI_CONFIGURATION_LENGTH 8
+
+/* Gives a node a request of the node configuration (ISO 14229-8, 8.8.3, 8.8.5 and 8.8.6). The requests and their answers, in hex:
+ *
+ *   2E FF 07, supplier, function, new address   6E FF 07
+ *   22 FF 05                                    62 FF 05, supplier, function, variant
+ *   22 F1 8C                                    62 F1 8C, serial number
+ *
+ * The first changes the address. Where it is for another supplier or function, or of an address outside 1 to 125, it meets silence:
+ * CXPI_DONE, and all is left as a refusal leaves it. length is the answer's, 0 for silence. */
+uint32_t cxpi_node_configure(const uint8_t *identity, size_t identity_length, uint8_t *address, const uint8_t *request,
+                             size_t request_length, uint8_t *answer, size_t answer_length, uint8_t *length);
 
 #ifdef __cplusplus
 }

@@ -34,7 +34,7 @@ static inline const char *cxpi_refusal_text(uint32_t number) {
     case CXPI_BUFFER_SHORT:
         return "a buffer is too short";
     case CXPI_NO_STATE:
-        return "the state record or the node number is out of range";
+        return "the state record, the identity's length or the node number is out of range";
     case CXPI_NO_REQID:
         return "the ReqId is not in the plan, or its row is the master's in an answer or another's in an ask to send";
     case CXPI_DAMAGED:
@@ -57,6 +57,10 @@ static inline const char *cxpi_refusal_text(uint32_t number) {
         return "the polled node is not yet asked";
     case CXPI_REPLIES_SHORT:
         return "the list of replies is shorter than the list of events";
+    case CXPI_WRONG_REQUEST:
+        return "the request is empty, or its length is not its service's";
+    case CXPI_NOT_SUPPORTED:
+        return "the request's service or identifier is not supported";
     default:
         return "no refusal number";
     }

@@ -9,9 +9,10 @@ import re
 import sys
 
 HEADER, LAYOUTS, STACK = "include/cxpi.h", "docs/LAYOUTS.md", "tests/firmware/run.sh"
-PLACES = ["plan_bytes/Places", "master_bytes/Places", "node_bytes/Places"]  # each of their definitions stands in a table
+PLACES = ["plan_bytes/Places", "master_bytes/Places", "node_bytes/Places", "node_configuration/Places"]  # all of them in the tables
 LIMITS = ["Limit", "Bytes in all", "Then"]  # columns whose numbers a constant's comment has too
 PREFIX = "CXPI_"
+NUMBER = r"0x[0-9A-Fa-f]+|0|[1-9]\d*"
 
 
 def read_file(path):
@@ -30,8 +31,8 @@ def read_header(text):
     for name, value, rest in re.findall(r"^#define (CXPI_\w+)(?: +(\S+))?(.*)$", text, flags=re.M):
         if name in numbers:
             wrong.append("%s is defined twice in the header" % name)
-        if re.fullmatch(r"0|[1-9]\d*", value):
-            numbers[name] = int(value)
+        if re.fullmatch(NUMBER, value):
+            numbers[name] = int(value, 0)
         elif name != "CXPI_H":
             wrong.append("%s is no number in the header" % name)
         comments[name] = rest.strip(" /*")
@@ -54,7 +55,7 @@ def listed(cell):
 
 def numbers_of(row):
     """The first number of each part of a row's first column."""
-    return [int(re.match(r"\d+", part)[0]) for part in listed(row[""])]
+    return [int(re.match(NUMBER, part)[0], 0) for part in listed(row[""])]
 
 
 def check_tiling(rows):
@@ -111,10 +112,10 @@ def check_definitions(tables, read):
             text = read(spec_path(file))
             for name in listed(names):
                 named.append((file, name))
-                number = re.search(r"^%s = (\d+)$" % name, text, flags=re.M)
+                number = re.search(r"^%s = (%s)$" % (name, NUMBER), text, flags=re.M)
                 if not re.search(r"\bpub %s\b" % name, text):
                     wrong.append("%s has no definition %s" % (file, name))
-                elif number and int(number[1]) != numbers_of(row)[0]:
+                elif number and int(number[1], 0) != numbers_of(row)[0]:
                     wrong.append("%s: %s is %s, LAYOUTS.md has %d" % (file, name, number[1], numbers_of(row)[0]))
     for file in PLACES:
         for name in re.findall(r"\bpub (\w+)\b", read(spec_path(file))):

@@ -11,28 +11,29 @@ import tempfile
 
 sys.dont_write_bytecode = True
 import check_header
-from check_header import HEADER, LAYOUTS, LIMITS, PLACES, read_file, spec_path
+from check_header import HEADER, LAYOUTS, LIMITS, NUMBER, PLACES, read_file, spec_path
 
 
 def changed(text, start, end, by):
-    return text[:start] + str(int(text[start:end]) + by) + text[end:]
+    written = "0x%X" if text.startswith("0x", start) else "%d"
+    return text[:start] + written % (int(text[start:end], 0) + by) + text[end:]
 
 
 def edits(text, places):
     """A text with each number changed by one, up and down; places has the start and the end of each."""
     for start, end in places:
         for by in (1, -1):
-            if int(text[start:end]) + by >= 0:
+            if int(text[start:end], 0) + by >= 0:
                 yield text[max(text.rfind("\n", 0, start), 0):end].strip(), by, changed(text, start, end, by)
 
 
 def within(match, group):
     """The places of the numbers in a part of a match; a number with commas has several."""
-    return [tuple(match.start(group) + at for at in number.span()) for number in re.finditer(r"\d+", match[group])]
+    return [tuple(match.start(group) + at for at in number.span()) for number in re.finditer(NUMBER, match[group])]
 
 
 def constants(text):
-    return [match.span(1) for match in re.finditer(r"^#define CXPI_\w+ +(\d+)", text, flags=re.M)]
+    return [match.span(1) for match in re.finditer(r"^#define CXPI_\w+ +(%s)" % NUMBER, text, flags=re.M)]
 
 
 def comments(text, names):

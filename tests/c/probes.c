@@ -405,6 +405,53 @@ static void probe_batch(void) {
     IS(replies[1].refusal == CXPI_NEEDS_NORMAL && replies[1].command == CXPI_MASTER_NOTHING);
 }
 
+/* The node configuration */
+
+static uint8_t identity[ROOM], answer[ROOM], address, answer_length;
+
+static void make_identity(void) {
+    memset(identity, 0, sizeof identity);
+    put_two(identity, CXPI_IDENTITY_SUPPLIER_AT, 0x0123);
+    put_two(identity, CXPI_IDENTITY_FUNCTION_AT, 0x4567);
+    identity[CXPI_IDENTITY_VARIANT_AT] = 0x89;
+    put_two(identity, CXPI_IDENTITY_SERIAL_NUMBER_AT, 0xABCD);
+    put_two(identity, CXPI_IDENTITY_SERIAL_NUMBER_AT + 2, 0xEF10);
+}
+
+/* A request of a service and an identifier, with bytes behind them or none. */
+static uint32_t configure(uint8_t service, uint32_t identifier, const char *bytes, size_t length, size_t room) {
+    uint8_t request[8] = {service};
+    put_two(request, 1, identifier);
+    memcpy(request + 3, bytes, length);
+    memset(answer, PAINT, sizeof answer);
+    return cxpi_node_configure(identity, CXPI_IDENTITY_LENGTH, &address, request, 3 + length, answer, room, &answer_length);
+}
+
+static uint32_t read_data(uint32_t identifier, size_t room) {
+    return configure(CXPI_READ_DATA_BY_IDENTIFIER, identifier, "", 0, room);
+}
+
+static bool answers(const char *bytes, size_t length) {
+    return answer_length == length && memcmp(answer, bytes, length) == 0 && is_painted(answer, length);
+}
+
+static void probe_configuration(void) {
+    make_identity();
+    IS(configure(CXPI_WRITE_DATA_BY_IDENTIFIER, CXPI_ASSIGN_NODE_ADDRESS, "\x01\x23\x45\x67\x41", 5, ROOM) == CXPI_DONE);
+    IS(answers("\x6E\xFF\x07", 3) && address == 0x41);
+    IS(read_data(CXPI_NODE_PRODUCT_IDENTIFICATION, CXPI_CONFIGURATION_LENGTH) == CXPI_DONE);
+    IS(answers("\x62\xFF\x05\x01\x23\x45\x67\x89", 8));
+    IS(read_data(CXPI_NODE_PRODUCT_IDENTIFICATION, CXPI_CONFIGURATION_LENGTH - 1) == CXPI_BUFFER_SHORT && answer_length == 0);
+    IS(read_data(CXPI_NODE_SERIAL_NUMBER_IDENTIFICATION, ROOM) == CXPI_DONE);
+    IS(answers("\x62\xF1\x8C\xAB\xCD\xEF\x10", 7));
+    IS(configure(CXPI_READ_DATA_BY_IDENTIFIER, CXPI_NODE_PRODUCT_IDENTIFICATION, "\x00", 1, ROOM) == CXPI_WRONG_REQUEST);
+    IS(read_data(CXPI_ASSIGN_NODE_ADDRESS, ROOM) == CXPI_NOT_SUPPORTED);
+    IS(cxpi_node_configure(identity, CXPI_IDENTITY_LENGTH - 1, &address, event, 0, answer, 0, &answer_length) == CXPI_NO_STATE);
+    /* no call takes these: by Table A.1 */
+    IS(CXPI_ASSIGN_FRAME_IDENTIFIER_RANGE == 0xFF02 && CXPI_SAVE_CONFIGURATION == 0xFF03);
+    IS(CXPI_NODE_CONFIGURATION_FILE_AVAILABILITY == 0xFF04 && CXPI_DATA_DUMP == 0xFF06);
+}
+
 int main(void) {
     IS(cxpi_version() == CXPI_VERSION);
     probe_plan();
@@ -413,6 +460,7 @@ int main(void) {
     probe_master();
     probe_node();
     probe_batch();
+    probe_configuration();
     printf("%u probes by the header's constants, %u wrong\n", probes, wrong);
     return wrong == 0 ? EXIT_SUCCESS : EXIT_FAILURE;
 }

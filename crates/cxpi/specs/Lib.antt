@@ -1,5 +1,6 @@
 pub mod BatchCalls
 pub mod Chains
+pub mod ConfigurationCalls
 pub mod MasterCalls
 pub mod NodeCalls
 pub mod Version

@@ -3,6 +3,7 @@ ghost use mathlib.Core.Path.{_≡_};
 ghost use Rattle.cxpi.specs.Version.{version};
 
 mod batches;
+mod configuration;
 mod masters;
 mod nodes;
 mod sets;

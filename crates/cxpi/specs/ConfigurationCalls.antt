@@ -1,0 +1,18 @@
+-- What the call on a node's configuration returns and leaves.
+use Prim.Native.Nat.{ℕ}
+use mathlib.Core.List.{List}
+use lib.ListN.{length}
+use lib.Dec.{eqb}
+use Rattle.folds.specs.Fold.{pick}
+use Rattle.node_configuration.specs.declared.Reply.{Reply}
+use Rattle.node_configuration.specs.Places.{identityLength}
+use Rattle.node_configuration.specs.Identity.{identityOf}
+use Rattle.node_configuration.specs.Answers.{refuse, configured, answered}
+
+-- 11 for an identity of another length, before the rest
+abbrev pub configureReply : List ℕ → ℕ → List ℕ → ℕ → Reply
+configureReply identity address request room =
+    pick (eqb (length identity) identityLength) (configured (identityOf identity) address request room) (refuse address 11)
+
+abbrev pub configureLeaves : List ℕ → List ℕ → List ℕ → List ℕ
+configureLeaves identity request answer = pick (eqb (length identity) identityLength) (answered (identityOf identity) request answer) answer
