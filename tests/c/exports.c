@@ -4,7 +4,7 @@
  *
  * Compile, product:   gcc -std=c11 -O2 -Wall -Wextra -Werror -pedantic -Iinclude tests/c/exports.c libcxpi.a -o exports
  * Compile, reference: gcc -std=c11 -O2 -Wall -Wextra -Werror -pedantic -DCXPI_REFERENCE -Iinclude -Itests/independent tests/c/exports.c
- *                     tests/independent/reference_packed.c tests/independent/reference.c -o exports
+ *                     tests/independent/reference_packed.c tests/independent/reference.c tests/independent/configuration.c -o exports
  * Run:                ./exports examples/set-t/plan.set */
 #include <stdio.h>
 #include <stdlib.h>
@@ -1005,6 +1005,102 @@ static void test_unused_places(void) {
     end_group("steps: unused places");
 }
 
+/* The node configuration */
+
+static const uint8_t identity[CXPI_IDENTITY_LENGTH] = {0x01, 0x23, 0x45, 0x67, 0x89, 0x01, 0x02, 0x03, 0x04};
+
+typedef struct {
+    const char *what;
+    size_t identity_length;
+    uint8_t address;
+    const uint8_t *request;
+    size_t request_length;
+    size_t room;
+} configuration;
+
+/* The request is answered by these bytes, none for silence and refusals, and leaves the node with an address. */
+static void expect_configured(const configuration *made, uint32_t result, const uint8_t *answer, size_t length, uint8_t address) {
+    uint8_t addresses[3] = {LENT_PAINT, made->address, LENT_PAINT}, lengths[3] = {LENT_PAINT, LENT_PAINT, LENT_PAINT};
+    const uint8_t wanted_addresses[3] = {LENT_PAINT, address, LENT_PAINT}, wanted_lengths[3] = {LENT_PAINT, (uint8_t)length, LENT_PAINT};
+    lent_fill(&lent_event, made->request, made->request_length);
+    wanted_event = lent_event;
+    lent_paint(&lent_reply, made->room);
+    wanted_reply = lent_reply;
+    if (length > 0) {
+        memcpy(lent_bytes(&wanted_reply), answer, length);
+    }
+    check(cxpi_node_configure(identity, made->identity_length, &addresses[1], lent_bytes(&lent_event), made->request_length,
+                              lent_bytes(&lent_reply), made->room, &lengths[1]) == result,
+          made->what);
+    check(memcmp(addresses, wanted_addresses, 3) == 0 && memcmp(lengths, wanted_lengths, 3) == 0, made->what);
+    check(lent_same(&lent_event, &wanted_event) && lent_same(&lent_reply, &wanted_reply), made->what);
+}
+
+/* In buffers of every length: the refusal where there is one, else the answer, or 10 where it does not fit. */
+static void expect_in_rooms(const char *what, const uint8_t *request, size_t request_length, uint32_t result, const uint8_t *answer,
+                            size_t length, uint8_t address) {
+    for (size_t room = 0; room <= 12; room++) {
+        configuration made = {what, sizeof identity, 0, request, request_length, room};
+        if (room < length) {
+            expect_configured(&made, 10, NULL, 0, 0);
+        } else {
+            expect_configured(&made, result, answer, length, address);
+        }
+    }
+}
+
+static void expect_unanswered(const char *what, const uint8_t *request, size_t request_length, uint32_t result) {
+    expect_in_rooms(what, request, request_length, result, NULL, 0, 0);
+}
+
+static void test_configuration(void) {
+    static const uint8_t reads[2][3] = {{0x22, 0xFF, 0x05}, {0x22, 0xF1, 0x8C}};
+    expect_in_rooms("product identification", reads[0], 3, 0, BYTES(0x62, 0xFF, 0x05, 0x01, 0x23, 0x45, 0x67, 0x89), 0);
+    expect_in_rooms("serial number", reads[1], 3, 0, BYTES(0x62, 0xF1, 0x8C, 0x01, 0x02, 0x03, 0x04), 0);
+    for (unsigned address = 0; address < 256; address++) {
+        const uint8_t assign[8] = {0x2E, 0xFF, 0x07, 0x01, 0x23, 0x45, 0x67, (uint8_t)address};
+        if (address >= 1 && address <= 125) {
+            expect_in_rooms("an address", assign, 8, 0, BYTES(0x6E, 0xFF, 0x07), (uint8_t)address);
+        } else {
+            expect_unanswered("an address outside 1 to 125", assign, 8, 0);
+        }
+    }
+    for (size_t offset = 3; offset < 7; offset++) {
+        for (unsigned change = 1; change < 256; change++) {
+            uint8_t assign[8] = {0x2E, 0xFF, 0x07, 0x01, 0x23, 0x45, 0x67, 0x41};
+            assign[offset] ^= (uint8_t)change;
+            expect_unanswered("another supplier or function", assign, 8, 0);
+        }
+    }
+    expect_unanswered("wildcards", BYTES(0x2E, 0xFF, 0x07, 0x7F, 0xFF, 0xFF, 0xFF, 0x41), 0);
+    end_group("configuration: answers");
+}
+
+static void test_configuration_refusals(void) {
+    static uint8_t longer[LENT_ROOM] = {0x2E, 0xFF, 0x07, 0x01, 0x23, 0x45, 0x67, 0x41};
+    for (size_t length = 0; length <= LENT_ROOM; length++) {
+        longer[0] = 0x2E;
+        if (length != 8) {
+            expect_unanswered("an assign's length", longer, length, 23);
+        }
+        longer[0] = 0x22;
+        if (length != 3) {
+            expect_unanswered("a read's length", longer, length, 23);
+        }
+        longer[0] = 0x10;
+        expect_unanswered("another service", longer, length, length == 0 ? 23 : 24);
+    }
+    expect_unanswered("a length before an identifier", BYTES(0x2E, 0xFF, 0x03, 0x00), 23);
+    expect_unanswered("a read's identifier written", BYTES(0x2E, 0xFF, 0x05, 0x01, 0x23, 0x45, 0x67, 0x41), 24);
+    expect_unanswered("an assign's identifier read", BYTES(0x22, 0xFF, 0x07), 24);
+    expect_unanswered("another identifier of Table A.1", BYTES(0x22, 0xFF, 0x04), 24);
+    for (size_t length = 0; length < sizeof identity; length++) {
+        configuration made = {"an identity's length, before all others", length, 0x41, longer, 0, 0};
+        expect_configured(&made, 11, NULL, 0, 0x41);
+    }
+    end_group("configuration: refusals");
+}
+
 static void test_file(const char *path) {
     uint8_t set[CXPI_SET_LENGTH_ONE + 1];
     FILE *file = fopen(path, "rb");
@@ -1045,6 +1141,8 @@ int main(int count, char **arguments) {
     test_no_events();
     test_step_order();
     test_unused_places();
+    test_configuration();
+    test_configuration_refusals();
     printf("%u checks, %u wrong\n", checks, failures);
     return failures == 0 ? EXIT_SUCCESS : EXIT_FAILURE;
 }

@@ -1,5 +1,5 @@
 #!/bin/sh
-# Builds the archive and runs the C tests against it: each export under sanitizers, the comparison with the independent implementation,
+# Builds the archive and runs the C tests against it: each export under sanitizers, the comparisons with the independent implementation,
 # the headers and the symbols, the firmware and the station example; the drill and the replay of recorded moves against independent ones; and the archives
 # for controllers. By gcc, and by clang where it is present.
 set -eu
@@ -35,6 +35,8 @@ for compiler in gcc clang; do
     last_line $out/exports examples/set-t/plan.set
     $compiler $flags $checked -Iinclude -I$independent tests/c/compare.c $reference $archive -o $out/compare_checked
     last_line $out/compare_checked 1000000 100000 2
+    $compiler $flags $checked -Iinclude -I$independent tests/c/compare_configuration.c $independent/configuration.c $archive -o $out/compare_configuration
+    last_line $out/compare_configuration
     $compiler $flags $checked -Iinclude examples/firmware/main.c $archive -o $out/firmware
     $out/firmware | cmp - examples/firmware/stdout
     $out/firmware examples/set-t/plan.set | cmp - examples/firmware/stdout

@@ -5,6 +5,7 @@
 #include "cxpi.h"
 
 #ifdef CXPI_REFERENCE
+#include "configuration.h"
 #include "reference_packed.h"
 #define cxpi_version reference_cxpi_version
 #define cxpi_read reference_cxpi_read
@@ -14,6 +15,7 @@
 #define cxpi_master_step reference_cxpi_master_step
 #define cxpi_node_step reference_cxpi_node_step
 #define cxpi_master_batch reference_cxpi_master_batch
+#define cxpi_node_configure reference_cxpi_node_configure
 #endif
 
 #endif
