@@ -1,8 +1,9 @@
 /* A small firmware host of CXPI network management: one master and its nodes on a bus that is stood in for by function calls.
  *
  * On a real unit the tick is a timer interrupt, the bus is the CXPI driver, and the unit runs the master or one node. Here all of them
- * run in one program, which makes document 01's twelve moves and prints after each the line that document 01 gives, and indented what
- * the machines commanded; then a master takes the events of a frame slot in one call. Only the headers and the archive are used; see README.md for how to compile. */
+ * run in one program. Node 0 is given its address and tells its identity, as on the moulding line; then document 01's twelve moves are
+ * made, and after each the line that document 01 gives is printed, and indented what the nodes and the machines sent and commanded; then a
+ * master takes the events of a frame slot in one call. Only the headers and the archive are used; see README.md for how to compile. */
 #include <signal.h>
 #include <stdbool.h>
 #include <stdio.h>
@@ -25,6 +26,7 @@ static const uint8_t set_in_flash[CXPI_SET_LENGTH_ONE] = {
 static uint8_t plan[CXPI_PLAN_LENGTH];
 static uint8_t master[CXPI_MASTER_LENGTH];
 static uint8_t nodes[CXPI_MOST_NODES][CXPI_NODE_LENGTH];
+static uint8_t address_of_node; /* node 0's: 0 as long as it has none */
 static bool clock_runs;
 static volatile sig_atomic_t tick_due;
 
@@ -173,6 +175,39 @@ static uint32_t handle_tick(void) {
     return refusal;
 }
 
+/* The node configuration: node 0 as it leaves the moulding line, with an identity and without an address */
+
+static const uint8_t identity_in_flash[CXPI_IDENTITY_LENGTH] = {
+    [CXPI_IDENTITY_SUPPLIER_AT] = 0x01,      0x23,            /* supplier 0123 hex */
+    [CXPI_IDENTITY_FUNCTION_AT] = 0x45,      0x67,            /* function 4567 hex */
+    [CXPI_IDENTITY_VARIANT_AT] = 0x89,                        /* variant 89 hex */
+    [CXPI_IDENTITY_SERIAL_NUMBER_AT] = 0x01, 0x02, 0x03, 0x04 /* serial number 01020304 hex */
+};
+
+/* A request that the bus brought; what the call leaves in the answer is to be sent, nothing where the node is silent. */
+static void configure_node(const uint8_t *request, size_t request_length) {
+    uint8_t answer[CXPI_CONFIGURATION_LENGTH], length;
+    cxpi_node_configure(identity_in_flash, sizeof identity_in_flash, &address_of_node, request, request_length, answer, sizeof answer,
+                        &length);
+    printf("  node 0:");
+    for (unsigned place = 0; place < length; place++) {
+        printf(" %02X", answer[place]);
+    }
+    printf("%s, address %02X hex\n", length == 0 ? " silence" : "", address_of_node);
+}
+
+/* The line asks by the numbers of ISO 14229-8, Table A.1: an address for another function, one for this node, and both reads. */
+static void configure_on_the_line(void) {
+    static const uint8_t assign_to_another[] = {0x2E, 0xFF, 0x07, 0x01, 0x23, 0x45, 0x68, 0x42};
+    static const uint8_t assign[] = {0x2E, 0xFF, 0x07, 0x01, 0x23, 0x45, 0x67, 0x41};
+    static const uint8_t read_product[] = {0x22, 0xFF, 0x05};
+    static const uint8_t read_serial_number[] = {0x22, 0xF1, 0x8C};
+    configure_node(assign_to_another, sizeof assign_to_another);
+    configure_node(assign, sizeof assign);
+    configure_node(read_product, sizeof read_product);
+    configure_node(read_serial_number, sizeof read_serial_number);
+}
+
 /* What the application asks for */
 
 static uint32_t wake_node(unsigned node) {
@@ -306,6 +341,7 @@ int main(int count, char **arguments) {
     for (unsigned node = 0; node < node_count(); node++) {
         cxpi_node_power_on(nodes[node], sizeof nodes[node]);
     }
+    configure_on_the_line();
     main_loop();
     frame_slot();
     return 0;
