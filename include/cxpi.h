@@ -46,7 +46,7 @@ extern "C" {
 #endif
 
 /* The version of calls and layouts, which each change of either raises. A host compares the archive's with its header's at start. */
-#define CXPI_VERSION 2
+#define CXPI_VERSION 3
 
 uint32_t cxpi_version(void);
 
