@@ -1,6 +1,5 @@
 -- The check of a 512-byte block.
-use Prim.Native.Nat.{ℕ, _+_, _*_, _%_, _≤_}
-use mathlib.Core.Path.{_≡_}
+use Prim.Native.Nat.{ℕ, _+_, _-_, _*_, _%_}
 use mathlib.Core.List.{List}
 use Rattle.folds.specs.Fold.{sumTo}
 use Rattle.blocks.specs.Bytes.{byte}
@@ -13,7 +12,10 @@ weight s start i = (i + 1) * byte s (start + i)
 unfoldable pub blockCheck : List ℕ → ℕ → ℕ
 blockCheck s start = sumTo (weight s start) 510 % 65521
 
--- r is the weight of a byte at an offset, with a bound that keeps the sum within 32 bits
-pub record Weight (offset byte r : ℕ) : Type 0 where
-  pub value : r ≡ (offset + 1) * byte
-  pub small : r ≤ 130050
+-- the flashing station's sheet, "a table that starts at byte 509 and goes down to byte 0": its "running total" after n bytes
+abbrev pub runningTotal : List ℕ → ℕ → ℕ → ℕ
+runningTotal s start n = sumTo (λ k. byte s (start + (509 - k))) n
+
+-- its "running total of totals" after n bytes
+abbrev pub totalOfTotals : List ℕ → ℕ → ℕ → ℕ
+totalOfTotals s start n = sumTo (λ k. runningTotal s start (k + 1)) n

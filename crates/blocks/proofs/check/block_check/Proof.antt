@@ -1,53 +1,67 @@
--- The sum so far is that of the definition; past the end nothing is added. Assumes nothing.
-use Prim.Native.Nat.{_*_, _-_, _%_, _≤_}
+-- The totals so far are those of the sheet, whose total of totals is the sum of products. Assumes nothing.
+use Prim.Native.Nat.{_+_, _-_, _%_, _≤_}
 use mathlib.Core.Path.{_≡_, ap, _∙_}
 use native.Mathlib.Omega.{arith}
 use lib.ListN.{List·getD-eq-default}
-use Rattle.folds.specs.Fold.{sumTo}
-use Rattle.folds.proofs.Sums.{sum-next, sum-none, sum-upto}
-use Rattle.blocks.specs.Check.{weight, blockCheck}
+use Rattle.blocks.specs.Check.{blockCheck, runningTotal, totalOfTotals}
+use Rattle.blocks.proofs.Sheet.{total-next, totals-next, sheet-products, sheet-zero, sheet-most}
 use borrow.Author.Needs.{needs}
 use Rattle.blocks.proofs.check.block_check.Statement.{statement}
 use Rattle.blocks.proofs.check.block_check.Tie as tie
 
 abbrev Inv-loop : tie.InvT-loop
-Inv-loop bytes start within sum₀ i₀ sum i = (i ≤ within) × (within ≤ 510) × (sum ≡ sumTo (weight bytes start) i) × (sum ≤ 130050 * i)
+Inv-loop bytes start total₀ totals₀ i₀ total totals i =
+    (i ≤ i₀) × (i₀ ≤ 510) × (total ≡ runningTotal bytes start (510 - i)) × (totals ≡ totalOfTotals bytes start (510 - i)) × (total ≤ 130050) × (totals ≤ 33227775)
 
 abbrev μ-loop : tie.MeasureT-loop
-μ-loop bytes start within sum₀ i₀ sum i = within - i
+μ-loop bytes start total₀ totals₀ i₀ total totals i = i
 
 reach-requires : tie.Need-reach-requires Inv-loop μ-loop
 reach-requires c κs = search needs
 
-cast-within : tie.Need-cast-within Inv-loop μ-loop
-cast-within c = omega (arith, c .reach .ensures .most)
+cast-i : tie.Need-cast-i Inv-loop μ-loop
+cast-i c = omega (arith, c .reach .ensures .most)
 
 loop-holds : tie.Need-loop-holds Inv-loop μ-loop
-loop-holds c = (search needs, omega (arith, c .reach .ensures .most), search (needs, sum-none), search needs)
+loop-holds c =
+    let a = c .before .before .args in
+    let none = sheet-zero (a .bytes .now) (a .start) (510 - c .reach .result) (λ k p. List·getD-eq-default (a .bytes .now) 0 (c .reach .ensures .outside (509 - k) (omega arith) (omega arith))) in
+    omega (arith, c .reach .ensures .most)
 
-cast-weighted : tie.Need-cast-weighted Inv-loop μ-loop
-cast-weighted c = search needs
+sub-i : tie.Need-sub-i Inv-loop μ-loop
+sub-i c = search needs
 
-add-weighted : tie.Need-add-weighted Inv-loop μ-loop
-add-weighted c = omega (arith, c .before .before .reach .ensures .inside (c .before .loop .i) (omega arith))
+cast-byte : tie.Need-cast-byte Inv-loop μ-loop
+cast-byte c = search needs
 
-shared-slice-read-weighted : tie.Need-shared-slice-read-weighted Inv-loop μ-loop
-shared-slice-read-weighted c = c .before .before .before .reach .ensures .inside _ (omega arith)
+add-byte : tie.Need-add-byte Inv-loop μ-loop
+add-byte c = omega (arith, c .before .before .reach .ensures .inside (c .before .loop .i - 1) (omega arith))
 
-weighted-requires : tie.Need-weighted-requires Inv-loop μ-loop
-weighted-requires c κs = search needs
+shared-slice-read-byte : tie.Need-shared-slice-read-byte Inv-loop μ-loop
+shared-slice-read-byte c = c .before .before .before .reach .ensures .inside _ (omega arith)
 
-add-sum : tie.Need-add-sum Inv-loop μ-loop
-add-sum c = search needs
+cast-byte-2 : tie.Need-cast-byte-2 Inv-loop μ-loop
+cast-byte-2 c = omega (arith, c .shared-slice-known2 .given (c .before .before .before .before .before .args .start + (c .before .before .loop .i - 1)))
 
-add-i : tie.Need-add-i Inv-loop μ-loop
-add-i c = search needs
+add-total : tie.Need-add-total Inv-loop μ-loop
+add-total c = omega (arith, c .shared-slice-known2 .given (c .before .before .before .before .before .args .start + (c .before .before .loop .i - 1)))
+
+add-totals : tie.Need-add-totals Inv-loop μ-loop
+add-totals c = omega (arith, c .shared-slice-known2 .given (c .before .before .before .before .before .args .start + (c .before .before .loop .i - 1)))
 
 loop-less : tie.Need-loop-less Inv-loop μ-loop
 loop-less c = search needs
 
 loop-again : tie.Need-loop-again Inv-loop μ-loop
-loop-again c = (search needs, search needs, cc (sum-next _ _, c .weighted .ensures .value), search needs)
+loop-again c =
+    let a = c .before .before .before .before .before .args in
+    let i = c .before .before .loop .i in
+    let e : 510 - (i - 1) ≡ 510 - i + 1 = omega arith in
+    let d : 509 - (510 - i) ≡ i - 1 = omega arith in
+    let total = rw d at (total-next (a .bytes .now) (a .start) (510 - i)) in
+    let totals = totals-next (a .bytes .now) (a .start) (510 - i) in
+    let most = sheet-most (a .bytes .now) (a .start) (λ o. omega (arith, c .shared-slice-known2 .given o)) (510 - i + 1) (omega arith) in
+    rw e (omega arith)
 
 cast-result : tie.Need-cast-result Inv-loop μ-loop
 cast-result c = search needs
@@ -56,10 +70,8 @@ returns : tie.Need-returns Inv-loop μ-loop
 unfolding blockCheck
 returns c =
     let a = c .before .before .before .before .args in
-    let e : c .before .loop .i ≡ c .before .before .reach .result = omega arith in
-    ap (λ x. x % 65521) (c .before .loop .inv .2 ∙ ap (sumTo (weight (a .bytes .now) (a .start))) e
-    ∙ sum-upto _ _ 510 (omega (arith, c .before .before .reach .ensures .most))
-    (λ i p q. rw (List·getD-eq-default (a .bytes .now) 0 (c .before .before .reach .ensures .outside i p (omega arith))) (omega arith)))
+    let e : 510 - c .before .loop .i ≡ 510 = omega arith in
+    ap (λ x. x % 65521) (c .before .loop .inv .3 ∙ ap (totalOfTotals (a .bytes .now) (a .start)) e ∙ sheet-products (a .bytes .now) (a .start))
 
 pub block-check-spec : {M : Type 1} → statement M
 block-check-spec =
@@ -68,14 +80,15 @@ block-check-spec =
     Inv-loop
     μ-loop
     reach-requires
-    cast-within
+    cast-i
     loop-holds
-    cast-weighted
-    add-weighted
-    shared-slice-read-weighted
-    weighted-requires
-    add-sum
-    add-i
+    sub-i
+    cast-byte
+    add-byte
+    shared-slice-read-byte
+    cast-byte-2
+    add-total
+    add-totals
     loop-less
     loop-again
     cast-result
