@@ -1,6 +1,7 @@
 """Runs the benchmark's programs by turns, nine times each, and prints the best time of each call beside C's, and the stacks.
 
-Usage: bench.py PROGRAM NAME [PROGRAM NAME]..: programs made of bench.c, each with what its C was compiled by.
+Usage: bench.py CALLS PROGRAM NAME [PROGRAM NAME]..: the calls whose names begin with CALLS; programs made of bench.c, each with what
+its C was compiled by.
 """
 import subprocess
 import sys
@@ -20,7 +21,8 @@ def measured(program):
 
 
 def main():
-    programs = list(zip(sys.argv[1::2], sys.argv[2::2]))
+    calls = sys.argv[1]
+    programs = list(zip(sys.argv[2::2], sys.argv[3::2]))
     export, export_stack, baseline, baseline_stack = {}, {}, {}, {}
     for _ in range(TURNS):
         for place, (program, _) in enumerate(programs):
@@ -35,6 +37,8 @@ def main():
           + " stack, bytes |" + "".join(" C's |" for _ in programs))
     print("|---|---|" + "---|---|" * len(programs) + "---|" + "---|" * len(programs))
     for call, ours in export.items():
+        if not call.startswith(calls):
+            continue
         cells = []
         for place, (_, name) in enumerate(programs):
             theirs = baseline[call, place]

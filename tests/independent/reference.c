@@ -16,12 +16,22 @@ static void put_number(uint8_t *bytes, size_t offset, uint16_t number) {
     bytes[offset + 1] = (uint8_t)number;
 }
 
-/* "the sum over bytes 0 to 509 of (offset + 1) times the byte, remainder by 65,521" */
+/* "the sum over bytes 0 to 509 of (offset + 1) times the byte, remainder by 65,521". The benchmark also has it by the flashing station's
+ * sheet: from byte 509 down to byte 0 a running total, and a running total of totals. */
 static uint16_t check_of(const uint8_t *block) {
+#ifdef CHECK_BY_SHEET
+    uint32_t total = 0;
+    uint32_t sum = 0;
+    for (uint32_t left = 510; left > 0; left--) {
+        total += block[left - 1];
+        sum += total;
+    }
+#else
     uint32_t sum = 0;
     for (uint32_t offset = 0; offset < 510; offset++) {
         sum += (offset + 1) * block[offset];
     }
+#endif
     return (uint16_t)(sum % 65521);
 }
 
