@@ -8,7 +8,7 @@ ghost use Rattle.master_batch.specs.Batch.{stepped, batchOf, batchReplies};
 ghost use Rattle.master_bytes.specs.States.{masterBytes, masterOf};
 ghost use Rattle.master_in_place.specs.InPlace.{isKept, accepting};
 ghost use Rattle.cxpi.specs.BatchCalls.{standing, leftUnder, batchLeaves};
-use crate::masters::row_for;
+use crate::masters::step_on;
 use master_bytes::master_of;
 use master_bytes::put_master;
 use master_events::EventRecord;
@@ -48,10 +48,7 @@ fn machine_step(plan: &[u8], state: &mut [u8], event: EventRecord) -> ReplyRecor
         × (now (state .exit) ≡ masterBytes (stepped (recordOf (now (plan .entry))) (masterOf (now (state .entry))) event .master))
         × (masterOf (now (state .exit)) ≡ stepped (recordOf (now (plan .entry))) (masterOf (now (state .entry))) event .master) ⌝ }
 {
-    let happened = event_of(event);
-    let row = row_for(plan, happened);
-    let times = plan_bytes::times_of(plan);
-    let given = master_of(state).step_with(plan_bytes::node_count(plan), times, row, happened);
+    let given = step_on(plan, state, event_of(event));
     let master = given.master;
     let command = given.command;
     put_master(state, master);

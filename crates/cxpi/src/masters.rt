@@ -2,8 +2,9 @@
 ghost use mathlib.Core.Path.{_≡_};
 ghost use lib.ListN.{length};
 ghost use Rattle.plan_bytes.specs.Record.{recordOf};
-ghost use Rattle.master.specs.Step.{rowAsked};
+ghost use Rattle.master.specs.Step.{rowAsked, stepUnder};
 ghost use Rattle.master.specs.Changes.{powerOn, refuse};
+ghost use Rattle.master_bytes.specs.States.{masterOf};
 ghost use Rattle.cxpi.specs.MasterCalls.{masterRoom, masterOn, masterReply, changesState, masterLeaves, masterReplies};
 use master::Command;
 use master::Event;
@@ -41,7 +42,7 @@ fn refused(refusal: u8) -> Reply
 }
 
 // The row that an event asks the plan for.
-pub(crate) fn row_for(plan: &[u8], event: Event) -> Lookup
+fn row_for(plan: &[u8], event: Event) -> Lookup
     ensures { λ r. ⌜ r ≡ rowAsked (recordOf (now (plan .entry))) event ⌝ }
 {
     match event {
@@ -55,6 +56,15 @@ pub(crate) fn row_for(plan: &[u8], event: Event) -> Lookup
     }
 }
 
+// A step on bytes where the plan is accepted. One function for both calls, so that the machine is compiled once.
+pub(crate) fn step_on(plan: &[u8], state: &[u8], happened: Event) -> Reply
+    ensures { λ r. ⌜ r ≡ stepUnder (recordOf (now (plan .entry))) (masterOf (now (state .entry))) happened ⌝ }
+{
+    let row = row_for(plan, happened);
+    let times = plan_bytes::times_of(plan);
+    master_of(state).step_with(plan_bytes::node_count(plan), times, row, happened)
+}
+
 // The reply to a step on bytes, with nothing written yet. The plan is judged once, here, in its bytes.
 fn reply_to(plan: &[u8], state: &[u8], event: &[u8], room: usize) -> Reply
     ensures { λ r. ⌜ r ≡ masterReply (now (plan .entry)) (now (state .entry)) (now (event .entry)) room ⌝ }
@@ -66,10 +76,7 @@ fn reply_to(plan: &[u8], state: &[u8], event: &[u8], room: usize) -> Reply
     if room < master_bytes::REPLY_LENGTH {
         return refused(10);
     }
-    let happened = event_of(event);
-    let row = row_for(plan, happened);
-    let times = plan_bytes::times_of(plan);
-    master_of(state).step_with(plan_bytes::node_count(plan), times, row, happened)
+    step_on(plan, state, event_of(event))
 }
 
 fn changes_state(refusal: u8) -> bool

@@ -1,3 +1,4 @@
+-- By the machine. Assumes nothing.
 use mathlib.Core.Path.{sym, _∙_}
 use lib.ListN.{length-map}
 use borrow.Author.Needs.{needs}
@@ -13,20 +14,8 @@ use Rattle.cxpi.proofs.batches.machine_step.Tie as tie
 event-of-requires : tie.Need-event-of-requires
 event-of-requires c κs = search needs
 
-row-for-requires : tie.Need-row-for-requires
-row-for-requires c κs = search needs
-
-times-of-requires : tie.Need-times-of-requires
-times-of-requires c κs = search needs
-
-master-of-requires : tie.Need-master-of-requires
-master-of-requires c κs = search needs
-
-node-count-requires : tie.Need-node-count-requires
-node-count-requires c κs = search needs
-
-step-with-requires : tie.Need-step-with-requires
-step-with-requires c κs = search needs
+step-on-requires : tie.Need-step-on-requires
+step-on-requires c κs = search needs
 
 put-master-requires : tie.Need-put-master-requires
 put-master-requires c κs = search needs
@@ -39,29 +28,17 @@ same-length c = search needs
 
 returns : tie.Need-returns
 returns c =
-    let given = c .before .before .before .before .before .before .step-with in
     let called = c .before .before .before .before .before .before in
-    let at = called .before .before .before .before .before .before in
-    machine-done _ _ _ (given .result) (c .command-number .result) _ (at .before .before .before .pre)
-    (rw (
-      given .ensures,
-      called .before .node-count .ensures,
-      called .before .before .master-of .ensures,
-      called .before .before .before .before .times-of .ensures,
-      called .before .before .before .before .before .row-for .ensures,
-      at .event-of .ensures,
-    )) (c .command-number .ensures) (let fields = LL.owed S.the-type S′.the-laws (given .result .master) _ (LL.owed Y.the-type Y′.the-laws (given .result) _ (given .ok) .0) in let a = fields .1 .1 .1 .0 .1 .0 .1 in let b = fields .1 .1 .1 .1 .0 .1 .0 .1 in record { holds = sym (length-map (given .result .master .holds) _) ∙ a; counts = sym (length-map (given .result .master .counts) _) ∙ b }) (c .before .before .before .put-master .ensures)
+    let given = called .step-on in
+    machine-done _ _ _ (given .result) (c .command-number .result) _ (called .before .before .before .before .before .pre)
+    (rw (given .ensures, called .before .event-of .ensures)) (c .command-number .ensures) (let fields = LL.owed S.the-type S′.the-laws (given .result .master) _ (LL.owed Y.the-type Y′.the-laws (given .result) _ (given .ok) .0) in let a = fields .1 .1 .1 .0 .1 .0 .1 in let b = fields .1 .1 .1 .1 .0 .1 .0 .1 in record { holds = sym (length-map (given .result .master .holds) _) ∙ a; counts = sym (length-map (given .result .master .counts) _) ∙ b }) (c .before .before .before .put-master .ensures)
 
 pub machine-step-spec : {M : Type 1} → statement M
 machine-step-spec =
     tie.close
     (tie.spec
     event-of-requires
-    row-for-requires
-    times-of-requires
-    master-of-requires
-    node-count-requires
-    step-with-requires
+    step-on-requires
     put-master-requires
     command-number-requires
     same-length
