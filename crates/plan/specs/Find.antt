@@ -1,5 +1,5 @@
 -- The row of a ReqId.
-use Prim.Native.Nat.{ℕ}
+use Prim.Native.Nat.{ℕ, zero, suc, min}
 use mathlib.Core.List.{List}
 use mathlib.Core.Bool.{Bool}
 use lib.Dec.{ltb, eqb}
@@ -23,3 +23,12 @@ rowAmong rows reqid n = rowBelow rows n (firstTo (hasReqid rows reqid) n)
 -- among the rows in use; in an accepted plan at most one has the ReqId
 unfoldable pub findRow : Plan → ℕ → Lookup
 findRow p reqid = rowAmong (p .rows) reqid (rowsUsed (p .rowcount))
+
+-- the last row of a ReqId among the first n
+unfoldable pub lastAmong : List Row → ℕ → ℕ → Lookup
+lastAmong rows reqid zero = Lookup.Missing
+lastAmong rows reqid (suc n) = pick (hasReqid rows reqid n) (Lookup.Found (rowAt rows n)) (lastAmong rows reqid n)
+
+-- the row of a ReqId where rows rise: its place is below its ReqId, and is looked for from there down
+unfoldable pub risingRow : Plan → ℕ → Lookup
+risingRow p reqid = lastAmong (p .rows) reqid (min reqid (rowsUsed (p .rowcount)))

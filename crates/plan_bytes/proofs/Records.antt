@@ -1,5 +1,5 @@
 -- The record of bytes: the plan in them where they have its length, else the all-zero record; and the bytes of that one.
-use Prim.Native.Nat.{ℕ, zero, suc, _+_, _-_, _/_, _%_, _≤_, _<_}
+use Prim.Native.Nat.{ℕ, zero, suc, min, _+_, _-_, _/_, _%_, _≤_, _<_}
 use mathlib.Core.Path.{_≡_, refl, ap, sym, _∙_}
 use mathlib.Core.Bool.{Bool, true, false}
 use mathlib.Core.List.{List, _++_, append-nil}
@@ -18,7 +18,7 @@ use Rattle.plan.specs.declared.Lookup.{Lookup}
 use Rattle.plan.specs.Record.{zeroEntry, zeroRow, zeroPlan}
 use Rattle.plan.specs.Rules.{planRefusal}
 use Rattle.plan.specs.Answers.{isPolled}
-use Rattle.plan.specs.Find.{findRow, rowAmong}
+use Rattle.plan.specs.Find.{findRow, rowAmong, lastAmong, risingRow}
 use Rattle.plan_bytes.specs.Record.{planIn, recordOf, recordHead, recordByte, recordBytes}
 
 pub record-in : (s : List ℕ) → length s ≡ 591 → planIn s ≡ recordOf s
@@ -42,6 +42,12 @@ none-polled s k h = rw (← record-none s h, all-same 16 k zeroEntry)
 pub no-row : (s : List ℕ) (reqid : ℕ) → (length s ≡ 591 → ⊥) → Lookup.Missing ≡ findRow (recordOf s) reqid
 unfolding zeroPlan findRow rowAmong firstTo
 no-row s reqid h = rw (← record-none s h)
+
+pub no-rising-row : (s : List ℕ) (reqid : ℕ) → (length s ≡ 591 → ⊥) → Lookup.Missing ≡ risingRow (recordOf s) reqid
+unfolding zeroPlan risingRow lastAmong
+no-rising-row s reqid h =
+    let z : min reqid 0 ≡ 0 = omega arith in
+    rw (← record-none s h, z)
 
 -- each byte of the all-zero record is 0
 zero-byte : (o : ℕ) → o < 591 → _≡_ {A = ℕ} 0 (recordByte zeroPlan o)

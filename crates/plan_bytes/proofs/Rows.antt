@@ -1,5 +1,5 @@
 -- The rows in the bytes: looked up, and judged one after the other.
-use Prim.Native.Nat.{ℕ, _+_, _<_}
+use Prim.Native.Nat.{ℕ, zero, suc, min, _+_, _<_}
 use mathlib.Core.Path.{_≡_, ap, sym, _∙_}
 use mathlib.Core.Bool.{Bool, true, false}
 use mathlib.Core.List.{List}
@@ -9,7 +9,7 @@ use Rattle.blocks.specs.Bytes.{number}
 use Rattle.plan.specs.declared.Row.{Row}
 use Rattle.plan.specs.declared.Lookup.{Lookup}
 use Rattle.plan.specs.Record.{rowAt, rowsUsed, zeroRow}
-use Rattle.plan.specs.Find.{hasReqid, rowAmong, findRow}
+use Rattle.plan.specs.Find.{hasReqid, rowAmong, findRow, lastAmong, risingRow}
 use Rattle.plan.specs.Rules.{reqidBefore, rowAfter, rowRight, publishes}
 use Rattle.plan.proofs.Lookups.{has, has-not, among-none, among-found}
 use Rattle.plan.proofs.Rows.{reqid-next}
@@ -41,9 +41,26 @@ module _ (s : List ℕ) (j : ℕ) (h : j < 127) (row : Row) (is : row ≡ record
       ∙ sym (among-found (rowsIn s) reqid count j l n (has (rowsIn s) reqid j (ap (λ (x : Row). x .reqid) (sym same) ∙ q)))
       ∙ ap (rowAmong (rowsIn s) reqid) u
 
+  -- and from the back
+  pub last-here : (reqid k : ℕ) → k ≡ suc j → row .reqid ≡ reqid → Lookup.Found row ≡ lastAmong (rowsIn s) reqid k
+  unfolding lastAmong
+  last-here reqid k e q = rw (e, has (rowsIn s) reqid j (ap (λ (x : Row). x .reqid) (sym same) ∙ q)) (ap (λ (x : Row). Lookup.Found x) same)
+
+  pub last-below : (reqid k : ℕ) → k ≡ suc j → (row .reqid ≡ reqid → ⊥) → lastAmong (rowsIn s) reqid j ≡ lastAmong (rowsIn s) reqid k
+  unfolding lastAmong
+  last-below reqid k e q = rw (e, other reqid q)
+
 pub missing : (s : List ℕ) (reqid count : ℕ) → count ≡ rowsUsed (number s 3) → anyTo (hasReqid (rowsIn s) reqid) count ≡ false → Lookup.Missing ≡ findRow (planIn s) reqid
 unfolding findRow
 missing s reqid count u n = sym (among-none (rowsIn s) reqid count n) ∙ ap (rowAmong (rowsIn s) reqid) u
+
+pub last-start : (s : List ℕ) (reqid count : ℕ) → count ≡ rowsUsed (number s 3) → lastAmong (rowsIn s) reqid (min reqid count) ≡ risingRow (planIn s) reqid
+unfolding risingRow
+last-start s reqid count u = ap (λ (n : ℕ). lastAmong (rowsIn s) reqid (min reqid n)) u
+
+pub last-none : (s : List ℕ) (reqid k : ℕ) → k ≡ 0 → Lookup.Missing ≡ lastAmong (rowsIn s) reqid k
+unfolding lastAmong
+last-none s reqid k e = rw e
 
 module _ (rows : List Row) (n count : ℕ) where
   pub refuses-7 : allTo (rowRight n rows) count ≡ false → 7 ≡ rowsRefusal rows n count

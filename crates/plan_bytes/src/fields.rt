@@ -1,10 +1,10 @@
 // The fields of a plan in the bytes of its packed record.
 ghost use mathlib.Core.Path.{_≡_};
-ghost use Prim.Native.Nat.{_≤_, _<_};
+ghost use Prim.Native.Nat.{min, _≤_, _<_};
 ghost use lib.ListN.{length};
 ghost use Rattle.blocks.specs.Bytes.{number};
 ghost use Rattle.plan.specs.Answers.{isPolled};
-ghost use Rattle.plan.specs.Find.{findRow};
+ghost use Rattle.plan.specs.Find.{findRow, risingRow};
 ghost use Rattle.plan.specs.Limits.{maxNodes, maxRows};
 ghost use Rattle.plan.specs.Record.{rowsUsed};
 ghost use Rattle.plan_bytes.specs.Places.{rowcountAt, recordLength};
@@ -116,6 +116,29 @@ pub(crate) fn row_in(bytes: &[u8], reqid: u8) -> Lookup
             return Lookup::Found(row);
         }
         j += 1;
+    }
+    Lookup::Missing
+}
+
+fn least(a: u32, b: u32) -> u32
+    ensures { λ r. ⌜ r ≡ min a b ⌝ }
+{
+    if a < b { a } else { b }
+}
+
+// The last row of a ReqId among those whose place is below it: a few steps down, where rows rise.
+pub(crate) fn rising_row_in(bytes: &[u8], reqid: u8) -> Lookup
+    requires { ⌜ length (now bytes) ≡ recordLength ⌝ }
+    ensures { λ r. ⌜ r ≡ risingRow (planIn (now (bytes .entry))) reqid ⌝ }
+{
+    let count = rows_used(bytes);
+    let mut j = least(reqid as u32, count);
+    while 0 < j {
+        j -= 1;
+        let row = row_at(bytes, j);
+        if row.reqid == reqid {
+            return Lookup::Found(row);
+        }
     }
     Lookup::Missing
 }

@@ -2,7 +2,7 @@
 // record being made. Bytes of another length are taken for the all-zero record.
 ghost use mathlib.Core.Path.{_≡_};
 ghost use Rattle.plan.specs.Answers.{isPolled};
-ghost use Rattle.plan.specs.Find.{findRow};
+ghost use Rattle.plan.specs.Find.{findRow, risingRow};
 ghost use Rattle.plan.specs.Rules.{planRefusal};
 ghost use Rattle.plan_bytes.specs.Record.{recordOf};
 use plan::Lookup;
@@ -100,6 +100,17 @@ pub fn row_of(bytes: &[u8], reqid: u8) -> Lookup
 {
     if bytes.len() == LENGTH {
         fields::row_in(bytes, reqid)
+    } else {
+        Lookup::Missing
+    }
+}
+
+// The row of a ReqId where rows rise.
+pub fn rising_row_of(bytes: &[u8], reqid: u8) -> Lookup
+    ensures { λ r. ⌜ r ≡ risingRow (recordOf (now (bytes .entry))) reqid ⌝ }
+{
+    if bytes.len() == LENGTH {
+        fields::rising_row_in(bytes, reqid)
     } else {
         Lookup::Missing
     }
