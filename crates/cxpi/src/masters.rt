@@ -1,20 +1,16 @@
 // Calls on the master.
 ghost use mathlib.Core.Path.{_≡_};
 ghost use lib.ListN.{length};
-ghost use Rattle.plan_bytes.specs.Record.{recordOf};
-ghost use Rattle.master.specs.Step.{rowAsked};
 ghost use Rattle.master.specs.Changes.{powerOn, refuse};
 ghost use Rattle.cxpi.specs.MasterCalls.{masterRoom, masterOn, masterReply, changesState, masterLeaves, masterReplies};
 use master::Command;
-use master::Event;
 use master::Master;
 use master::Reply;
 use master_bytes::event_of;
-use master_bytes::master_of;
 use master_bytes::put_master;
 use master_bytes::put_power_on;
 use master_bytes::put_reply;
-use plan::Lookup;
+use master_bytes::step_on;
 
 #[no_mangle]
 pub extern "C" fn cxpi_master_power_on(state: &mut [u8]) -> u32
@@ -40,21 +36,6 @@ fn refused(refusal: u8) -> Reply
     }
 }
 
-// The row that an event asks the plan for.
-fn row_for(plan: &[u8], event: Event) -> Lookup
-    ensures { λ r. ⌜ r ≡ rowAsked (recordOf (now (plan .entry))) event ⌝ }
-{
-    match event {
-        Event::Tick => Lookup::Missing,
-        Event::Answer(answer) => plan_bytes::row_of(plan, answer.reqid),
-        Event::Pulse => Lookup::Missing,
-        Event::WakeAsk => Lookup::Missing,
-        Event::Permission(_) => Lookup::Missing,
-        Event::SleepAsk => Lookup::Missing,
-        Event::SendResult(_) => Lookup::Missing,
-    }
-}
-
 // The reply to a step on bytes, with nothing written yet. The plan is judged once, here, in its bytes.
 fn reply_to(plan: &[u8], state: &[u8], event: &[u8], room: usize) -> Reply
     ensures { λ r. ⌜ r ≡ masterReply (now (plan .entry)) (now (state .entry)) (now (event .entry)) room ⌝ }
@@ -66,10 +47,7 @@ fn reply_to(plan: &[u8], state: &[u8], event: &[u8], room: usize) -> Reply
     if room < master_bytes::REPLY_LENGTH {
         return refused(10);
     }
-    let happened = event_of(event);
-    let row = row_for(plan, happened);
-    let times = plan_bytes::times_of(plan);
-    master_of(state).step_with(plan_bytes::node_count(plan), times, row, happened)
+    step_on(plan, state, event_of(event))
 }
 
 fn changes_state(refusal: u8) -> bool

@@ -14,7 +14,7 @@ use plan::Plan;
 use plan::Row;
 
 // The answers lost between the last count and this one.
-fn lost_after(last: u8, count: u8) -> u8
+pub fn lost_after(last: u8, count: u8) -> u8
     ensures { λ r. ⌜ r ≡ lostAfter last count ⌝ }
 {
     if last < Master::NO_COUNT {

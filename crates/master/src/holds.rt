@@ -18,7 +18,8 @@ fn with_hold(mut holds: [Hold; Plan::NODES], node: u8, hold: Hold) -> [Hold; Pla
     holds
 }
 
-fn older(window: u16, hold: Hold) -> Hold
+// A permission a tick later.
+pub fn older(window: u16, hold: Hold) -> Hold
     ensures { λ r. ⌜ r ≡ older window hold ⌝ }
 {
     if hold.held {

@@ -16,6 +16,9 @@ mod sleeping;
 mod ticks;
 mod waking;
 
+pub use answers::lost_after;
+pub use holds::older;
+
 // How far a sleep message has come.
 pub enum Phase {
     Open,

@@ -4,16 +4,16 @@ pub const LENGTH: usize = 185;
 
 pub const REPLY_LENGTH: usize = 3;
 
-pub(crate) const STATE_AT: usize = 0;
+pub const STATE_AT: usize = 0;
 
-pub(crate) const PHASE_AT: usize = 1;
+pub const PHASE_AT: usize = 1;
 
 pub(crate) const PERMISSION_AT: usize = 2;
 
 pub(crate) const DELAY_AT: usize = 3;
 
-pub(crate) const TICKS_AT: usize = 5;
+pub const TICKS_AT: usize = 5;
 
-pub(crate) const HOLDS_AT: usize = 9;
+pub const HOLDS_AT: usize = 9;
 
-pub(crate) const COUNTS_AT: usize = 57;
+pub const COUNTS_AT: usize = 57;

@@ -137,13 +137,15 @@ fn is_master(bytes: &[u8]) -> bool
         & flags_right(bytes)
 }
 
-fn hold_of(bytes: &[u8], k: usize) -> Hold
-    requires { ⌜ k < maxNodes ⌝ }
-    ensures { λ r. ⌜ r ≡ holdOf (now (bytes .entry)) k ⌝ }
+// The permission of a node.
+pub fn hold_of(bytes: &[u8], node: u8) -> Hold
+    ensures { λ r. ⌜ r ≡ holdOf (now (bytes .entry)) node ⌝ }
 {
+    // In 32 bits, which a controller multiplies by itself.
+    let start = HOLDS_AT + ((3 * (node as u32)) as usize);
     Hold {
-        held: byte_at(bytes, HOLDS_AT + 3 * k) == 1,
-        age: number_at(bytes, HOLDS_AT + 3 * k + 1),
+        held: byte_at(bytes, start) == 1,
+        age: number_at(bytes, start + 1),
     }
 }
 
@@ -151,9 +153,9 @@ fn holds_of(bytes: &[u8]) -> [Hold; Plan::NODES]
     ensures { λ r. ⌜ r ≡ holdsOf (now (bytes .entry)) ⌝ }
 {
     let mut holds = [Master::NO_HOLD; Plan::NODES];
-    let mut k: usize = 0;
-    while k < Plan::NODES {
-        holds[k] = hold_of(bytes, k);
+    let mut k: u8 = 0;
+    while (k as usize) < Plan::NODES {
+        holds[k as usize] = hold_of(bytes, k);
         k += 1;
     }
     holds

@@ -33,33 +33,17 @@ returns-2 c =
 event-of-requires : tie.Need-event-of-requires
 event-of-requires c κs = search needs
 
-row-for-requires : tie.Need-row-for-requires
-row-for-requires c κs = search needs
-
-times-of-requires : tie.Need-times-of-requires
-times-of-requires c κs = search needs
-
-master-of-requires : tie.Need-master-of-requires
-master-of-requires c κs = search needs
-
-node-count-requires : tie.Need-node-count-requires
-node-count-requires c κs = search needs
-
-step-with-requires : tie.Need-step-with-requires
-step-with-requires c κs = search needs
+step-on-requires : tie.Need-step-on-requires
+step-on-requires c κs = search needs
 
 returns-3 : tie.Need-returns-3
 returns-3 c =
     rw (
-      c .step-with .ensures,
-      c .before .node-count .ensures,
-      c .before .before .master-of .ensures,
-      c .before .before .before .times-of .ensures,
-      c .before .before .before .before .row-for .ensures,
-      c .before .before .before .before .before .event-of .ensures,
-      ← c .before .before .before .before .before .before .before .before .refusal-of .ensures,
-      eq-eqb _ _ (c .before .before .before .before .before .before .before .if1 .left),
-      le-ltb _ _ (c .before .before .before .before .before .before .if2 .left),
+      c .step-on .ensures,
+      c .before .event-of .ensures,
+      ← c .before .before .before .before .refusal-of .ensures,
+      eq-eqb _ _ (c .before .before .before .if1 .left),
+      le-ltb _ _ (c .before .before .if2 .left),
     )
 
 pub reply-to-spec : {M : Type 1} → statement M
@@ -72,9 +56,5 @@ reply-to-spec =
     refused-requires-2
     returns-2
     event-of-requires
-    row-for-requires
-    times-of-requires
-    master-of-requires
-    node-count-requires
-    step-with-requires
+    step-on-requires
     returns-3)

@@ -2,23 +2,20 @@ use borrow.Author.Needs.{needs}
 use Rattle.master_bytes.proofs.states.hold_of.Statement.{statement}
 use Rattle.master_bytes.proofs.states.hold_of.Tie as tie
 
-mul-byte-at : tie.Need-mul-byte-at
-mul-byte-at c = search needs
+mul-start : tie.Need-mul-start
+mul-start c = search needs
 
-add-byte-at : tie.Need-add-byte-at
-add-byte-at c = search needs
+cast-start : tie.Need-cast-start
+cast-start c = search needs
+
+add-start : tie.Need-add-start
+add-start c = search needs
 
 byte-at-requires : tie.Need-byte-at-requires
 byte-at-requires c κs = search needs
 
-mul-number-at : tie.Need-mul-number-at
-mul-number-at c = search needs
-
 add-number-at : tie.Need-add-number-at
 add-number-at c = search needs
-
-add-number-at-2 : tie.Need-add-number-at-2
-add-number-at-2 c = search needs
 
 number-at-requires : tie.Need-number-at-requires
 number-at-requires c κs = search needs
@@ -33,12 +30,4 @@ returns c =
 pub hold-of-spec : {M : Type 1} → statement M
 hold-of-spec =
     tie.close
-    (tie.spec
-    mul-byte-at
-    add-byte-at
-    byte-at-requires
-    mul-number-at
-    add-number-at
-    add-number-at-2
-    number-at-requires
-    returns)
+    (tie.spec mul-start cast-start add-start byte-at-requires add-number-at number-at-requires returns)

@@ -19,8 +19,14 @@ abbrev μ-loop : tie.MeasureT-loop
 loop-holds : tie.Need-loop-holds Inv-loop μ-loop
 loop-holds c = (search needs, refl, λ i p. absurd (omega arith))
 
+cast-loop : tie.Need-cast-loop Inv-loop μ-loop
+cast-loop c = search needs
+
 hold-of-requires : tie.Need-hold-of-requires Inv-loop μ-loop
 hold-of-requires c κs = search needs
+
+cast-holds : tie.Need-cast-holds Inv-loop μ-loop
+cast-holds c = search needs
 
 mul-holds : tie.Need-mul-holds Inv-loop μ-loop
 mul-holds c = search needs
@@ -50,7 +56,9 @@ holds-of-spec =
     Inv-loop
     μ-loop
     loop-holds
+    cast-loop
     hold-of-requires
+    cast-holds
     mul-holds
     array-set-from-holds
     add-k

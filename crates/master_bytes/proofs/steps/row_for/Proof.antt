@@ -1,7 +1,7 @@
 -- By the event. Assumes nothing.
 use borrow.Author.Needs.{needs}
-use Rattle.cxpi.proofs.masters.row_for.Statement.{statement}
-use Rattle.cxpi.proofs.masters.row_for.Tie as tie
+use Rattle.master_bytes.proofs.steps.row_for.Statement.{statement}
+use Rattle.master_bytes.proofs.steps.row_for.Tie as tie
 
 enum-told : tie.Need-enum-told
 enum-told c = search needs
