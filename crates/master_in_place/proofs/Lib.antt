@@ -1,0 +1,4 @@
+pub mod Aged
+pub mod Masters
+pub mod Parts
+pub mod Steps

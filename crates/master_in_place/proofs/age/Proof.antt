@@ -1,0 +1,22 @@
+use borrow.Author.Needs.{needs}
+use Rattle.master_in_place.proofs.age.Statement.{statement}
+use Rattle.master_in_place.proofs.age.Tie as tie
+
+age-holds-requires : tie.Need-age-holds-requires
+age-holds-requires c κs = search needs
+
+next-tick-requires : tie.Need-next-tick-requires
+next-tick-requires c κs = search needs
+
+same-length : tie.Need-same-length
+same-length c = search needs
+
+returns : tie.Need-returns
+returns c =
+    rw (
+      c .before .before .next-tick .ensures,
+      c .before .before .before .before .before .before .age-holds .ensures,
+    )
+
+pub age-spec : {M : Type 1} → statement M
+age-spec = tie.close (tie.spec age-holds-requires next-tick-requires same-length returns)

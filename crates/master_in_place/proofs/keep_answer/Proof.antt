@@ -1,0 +1,20 @@
+use borrow.Author.Needs.{needs}
+use Rattle.master_in_place.proofs.keep_answer.Statement.{statement}
+use Rattle.master_in_place.proofs.keep_answer.Tie as tie
+
+keep-count-requires : tie.Need-keep-count-requires
+keep-count-requires c κs = search needs
+
+put-hold-requires : tie.Need-put-hold-requires
+put-hold-requires c κs = search needs
+
+same-length : tie.Need-same-length
+same-length c = search needs
+
+returns : tie.Need-returns
+returns c =
+    let kept = c .before .before .before .before .before .before .keep-count .ensures in
+    (kept .0, rw (c .before .before .put-hold .ensures, kept .1))
+
+pub keep-answer-spec : {M : Type 1} → statement M
+keep-answer-spec = tie.close (tie.spec keep-count-requires put-hold-requires same-length returns)

@@ -1,0 +1,154 @@
+// What ticks and answers, the events that fill a frame slot, do to a master, in the bytes of its state.
+ghost use mathlib.Core.Path.{_≡_};
+ghost use mathlib.Core.List.{[], _∷_};
+ghost use Prim.Native.Nat.{_+_, _*_};
+ghost use lib.Dec.{ltb};
+ghost use lib.Seq.{sets};
+ghost use Rattle.folds.specs.Fold.{pick};
+ghost use Rattle.master.specs.Ticks.{older};
+ghost use Rattle.master_bytes.specs.Places.{holdsAt};
+ghost use Rattle.master_bytes.specs.States.{holdBytes, holdOf};
+ghost use Rattle.master_in_place.specs.InPlace.{isQuiet, agedHolds, ticked, agedBytes, isKept, accepting, lostBefore, countKept, answerKept};
+use blocks::byte_at;
+use blocks::long_number;
+use blocks::number_at;
+use blocks::put;
+use machine::flag_byte;
+use master::Hold;
+use master::lost_after;
+use master::older;
+use master_bytes::COUNTS_AT;
+use master_bytes::HOLDS_AT;
+use master_bytes::PHASE_AT;
+use master_bytes::STATE_AT;
+use master_bytes::TICKS_AT;
+use master_bytes::hold_of;
+use master_events::EventRecord;
+use plan::Lookup;
+use plan::Plan;
+use plan::Row;
+
+fn put_byte(state: &mut [u8], offset: usize, value: u8)
+    ensures { λ _. ⌜ now (state .exit) ≡ sets (now (state .entry)) offset (value ∷ []) ⌝ }
+{
+    if offset < state.len() {
+        state[offset] = value;
+    }
+}
+
+// By the byte: a place that is not known to the compiler would cost `put` a loop.
+fn put_hold(state: &mut [u8], node: u8, hold: Hold)
+    ensures { λ _. ⌜ now (state .exit) ≡ sets (now (state .entry)) (holdsAt + 3 * node) (holdBytes hold) ⌝ }
+{
+    let start = HOLDS_AT + ((3 * (node as u32)) as usize);
+    put_byte(state, start, flag_byte(hold.held));
+    put_byte(state, start + 1, (hold.age / 256) as u8);
+    put_byte(state, start + 2, (hold.age % 256) as u8);
+}
+
+fn age_hold(state: &mut [u8], k: u8, nodes: u8, window: u16)
+    ensures { λ _. ⌜ now (state .exit) ≡ pick (ltb k nodes) (sets (now (state .entry)) (holdsAt + 3 * k) (holdBytes (older window (holdOf (now (state .entry)) k)))) (now (state .entry)) ⌝ }
+{
+    if k >= nodes {
+        return;
+    }
+    let hold = hold_of(state, k);
+    put_hold(state, k, older(window, hold));
+}
+
+// All places are passed, so that their number is known to the compiler.
+fn age_holds(state: &mut [u8], nodes: u8, window: u16)
+    ensures { λ _. ⌜ now (state .exit) ≡ agedHolds nodes window (now (state .entry)) ⌝ }
+{
+    let mut k: u8 = 0;
+    while (k as usize) < Plan::NODES {
+        age_hold(state, k, nodes, window);
+        k += 1;
+    }
+}
+
+fn next_tick(state: &mut [u8])
+    ensures { λ _. ⌜ now (state .exit) ≡ ticked (now (state .entry)) ⌝ }
+{
+    let ticks = long_number(number_at(state, TICKS_AT), number_at(state, TICKS_AT + 2));
+    let next = std::num::wrapping_add_u32(ticks, 1);
+    let high = next / 65536;
+    let low = next % 65536;
+    let bytes = [
+        (high / 256) as u8,
+        (high % 256) as u8,
+        (low / 256) as u8,
+        (low % 256) as u8,
+    ];
+    put(state, TICKS_AT, &bytes[..]);
+}
+
+// Whether an event is a tick that leaves state and phase.
+pub fn is_quiet(state: &[u8], event: EventRecord) -> bool
+    ensures { λ r. ⌜ r ≡ isQuiet (now (state .entry)) event ⌝ }
+{
+    let sleeps = byte_at(state, STATE_AT) == 2;
+    let stays = (byte_at(state, STATE_AT) == 0) & (byte_at(state, PHASE_AT) < 3);
+    (event.kind == 0) & (sleeps | stays)
+}
+
+// A tick that leaves state and phase.
+pub fn age(state: &mut [u8], nodes: u8, window: u16)
+    ensures { λ _. ⌜ now (state .exit) ≡ agedBytes nodes window (now (state .entry)) ⌝ }
+{
+    age_holds(state, nodes, window);
+    next_tick(state);
+}
+
+// Whether an event is an answer that is undamaged, permits sleep and wakes nobody, in Normal.
+pub fn is_kept(state: &[u8], event: EventRecord) -> bool
+    ensures { λ r. ⌜ r ≡ isKept (now (state .entry)) event ⌝ }
+{
+    let normal = byte_at(state, STATE_AT) == 0;
+    let right = ((event.reqid as usize) < Row::REQIDS) & (event.count < Row::COUNTS);
+    let permits = (event.permission == 1) & (event.wake == 0);
+    (event.kind == 1) & normal & right & permits & (event.result == 0)
+}
+
+// A row, where a node publishes it and it accepts a length.
+pub fn accepting(row: Lookup, length: u16) -> Lookup
+    ensures { λ r. ⌜ r ≡ accepting row length ⌝ }
+{
+    match row {
+        Lookup::Missing => Lookup::Missing,
+        Lookup::Found(found) => {
+            if found.publisher == Plan::MASTER {
+                Lookup::Missing
+            } else {
+                if found.accepts(length) {
+                    Lookup::Found(found)
+                } else {
+                    Lookup::Missing
+                }
+            }
+        }
+    }
+}
+
+// Keeps the count of an answer, where its row has one.
+fn keep_count(state: &mut [u8], row: Row, count: u8) -> u8
+    ensures { λ r. ⌜ (r ≡ lostBefore row count (now (state .entry))) × (now (state .exit) ≡ countKept row count (now (state .entry))) ⌝ }
+{
+    if row.is_counted() {
+        let place = COUNTS_AT + (row.reqid as usize);
+        let lost = lost_after(byte_at(state, place), count);
+        put_byte(state, place, count);
+        return lost;
+    }
+    0
+}
+
+// A whole answer that permits sleep and wakes nobody; gives the answers lost before it.
+pub fn keep_answer(state: &mut [u8], row: Row, count: u8) -> u8
+    ensures { λ r. ⌜ (r ≡ lostBefore row count (now (state .entry))) × (now (state .exit) ≡ answerKept row count (now (state .entry))) ⌝ }
+{
+    let lost = keep_count(state, row, count);
+    let given = Hold { held: true, age: 0 };
+    put_hold(state, row.publisher, given);
+    lost
+}
