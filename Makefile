@@ -1,5 +1,5 @@
 # rt proves and builds what has changed; rt ci starts from nothing and gives the verdict.
-.PHONY: run show replay test bench firmware cases
+.PHONY: run show replay test bench lib firmware cases
 
 # Document 01's drill: its twelve moves on set T.
 run:
@@ -29,6 +29,10 @@ test:
 bench:
 	sh tests/c/bench.sh
 	sh tests/firmware/measure.sh
+
+# The C calls for x86-64: target/lib/libcxpi.a.
+lib:
+	@sh firmware/module.sh
 
 # The C calls for controllers: an archive for each and both variants, in target/firmware.
 firmware:

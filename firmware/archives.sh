@@ -1,5 +1,5 @@
 #!/bin/sh
-# Makes archives for controllers of the module that module.sh kept: target/firmware/TARGET-VARIANT with libcxpi.a, its headers and origin.txt,
+# Makes archives for controllers of the modules that module.sh kept: target/firmware/TARGET-VARIANT with libcxpi.a, its headers and origin.txt,
 # which says where it comes from. Needs the Rattle kit and python3 alone.
 # Run: sh firmware/archives.sh [TARGET-VARIANT].., by default both variants, small and fast, for every controller.
 set -eu
@@ -7,6 +7,7 @@ cd "$(dirname "$0")/.."
 . firmware/targets.sh
 root=$PWD
 out=$root/target/firmware
+modules=$out/modules
 clang=$toolchain/bin/clang
 
 # What rattle tells clang, but for target, optimisation and position independence. By the threshold each call becomes one function: apart,
@@ -17,12 +18,14 @@ common="-mllvm -inline-threshold=3000 -ffunction-sections -fdata-sections -mllvm
 # origin TARGET-VARIANT FLAGS
 origin() {
     cat << END
-The C calls of cxpi.h, compiled from the LLVM module of the proved build. The compilation is not proved, and is tested on an emulated Cortex-M0
+The C calls of cxpi.h, compiled from the LLVM modules of the proved build. The compilation is not proved, and is tested on an emulated Cortex-M0
 and Cortex-M3.
 
-verdict    $(cat "$out/verdict")
+$(for crate in $crates; do
+    echo "verdict    $crate: $(cat "$modules/$crate.verdict")"
+    echo "module     $crate: $(sha256sum < "$modules/$crate.bc" | cut -d ' ' -f 1)"
+done)
 kit        $(cat "$kit/KIT-ID")
-module     $(sha256sum < "$out/module.bc" | cut -d ' ' -f 1)
 compiler   $("$clang" --version | head -n 1)
 flags      $2
 
@@ -34,10 +37,12 @@ $(cd "$out/$1" && sha256sum cxpi.h cxpi_text.h libcxpi.a)
 END
 }
 
-[ -f "$out/module.ll" ] || {
-    echo "no module: run firmware/module.sh first" >&2
-    exit 2
-}
+for crate in $crates; do
+    [ -f "$modules/$crate.ll" ] || {
+        echo "no module of $crate: run firmware/module.sh first" >&2
+        exit 2
+    }
+done
 if [ $# -eq 0 ]; then
     for target in $controllers; do set -- "$@" "$target-small" "$target-fast"; done
 fi
@@ -54,12 +59,14 @@ for made; do
         attributes=
         [ "$variant" = fast ] || attributes=optsize # in a module -Os is an attribute of its functions
         "$clang" $flags -S -emit-llvm -x c /dev/null -o target.ll
-        python3 "$root/firmware/retarget.py" "$out/module.ll" "$root/include/cxpi.h" target.ll cxpi.ll $attributes > retarget.log
-        # By way of assembly, in which stack.py sees each call.
-        "$clang" $flags $level $common -fstack-usage -S -x ir cxpi.ll -o cxpi.s
-        "$clang" $flags -Werror -c cxpi.s -o cxpi.o
-        "$toolchain/bin/llvm-ar" rcsD "$out/$made/libcxpi.a" cxpi.o
-        python3 "$root/firmware/stack.py" . > stack
+        for crate in $crates; do
+            python3 "$root/firmware/retarget.py" "$modules/$crate.ll" "$root/include/cxpi.h" target.ll "$crate.ll" $attributes > "$crate.log"
+            # By way of assembly, in which stack.py sees each call.
+            "$clang" $flags $level $common -fstack-usage -S -x ir "$crate.ll" -o "$crate.s"
+            "$clang" $flags -Werror -c "$crate.s" -o "$crate.o"
+            "$toolchain/bin/llvm-ar" rcsD "$out/$made/libcxpi.a" "$crate.o"
+            python3 "$root/firmware/stack.py" "$crate"
+        done > stack
     )
     origin "$made" "$flags $level $common" > "$out/$made/origin.txt"
     echo "target/firmware/$made/libcxpi.a"

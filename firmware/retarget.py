@@ -3,7 +3,7 @@
 
 Usage: retarget.py MODULE HEADER TARGET OUT [ATTRIBUTE]..
 
-MODULE is the module that rattle hands to clang, as text. HEADER declares the exported functions. TARGET is any module of the new target, of
+MODULE is the module that rattle hands to clang, as text. HEADER declares the exported functions, and may declare those of other modules. TARGET is any module of the new target, of
 which the two lines `target ..` are taken. OUT is the module retargeted, each function with the attributes given (optsize).
 
 The code stays as it is: usize has 64 bits, and a place has the size and the offsets that it has on x86-64, where a pointer fills
@@ -235,8 +235,8 @@ def read_header(text):
 def hold_to_header(functions, declared):
     """Each exported function has the result and the parameters that the header declares, so that each i64 is a length behind its pointer."""
     exported = {name.strip('@"'): function for name, function in functions.items() if function.exported}
-    if exported.keys() != declared.keys():
-        raise Refused(f'exported and declared differ in {" ".join(sorted(exported.keys() ^ declared.keys()))}')
+    if not exported.keys() <= declared.keys():
+        raise Refused(f'exported, but not declared: {" ".join(sorted(exported.keys() - declared.keys()))}')
     for name, function in exported.items():
         kinds = [kind for kind, _ in function.parameters]
         if (function.result, kinds) != declared[name]:

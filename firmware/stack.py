@@ -1,7 +1,7 @@
 #!/usr/bin/env python3
 """The most stack that each exported function can take, whatever its input, from the compiled code.
 
-Usage: stack.py FOLDER [BOUND], FOLDER holding cxpi.s and cxpi.su as archives.sh leaves them. A call that can take more than the bound is an
+Usage: stack.py NAME [BOUND], NAME.s and NAME.su being what archives.sh leaves of a module. A call that can take more than the bound is an
 error.
 
 Frames are clang's own (-fstack-usage), summed along the deepest chain of calls in the assembly. The sum is exact down to the C library: no frame
@@ -62,24 +62,24 @@ def deepest(name, frames, calls, above=()):
 def main():
     if len(sys.argv) not in (2, 3):
         sys.exit(__doc__)
-    folder = sys.argv[1]
+    name = sys.argv[1]
     bound = int(sys.argv[2]) if len(sys.argv) == 3 else None
     try:
-        with open(f'{folder}/cxpi.su', encoding='utf-8') as file:
+        with open(f'{name}.su', encoding='utf-8') as file:
             frames = read_frames(file.read())
-        with open(f'{folder}/cxpi.s', encoding='utf-8') as file:
+        with open(f'{name}.s', encoding='utf-8') as file:
             text = file.read()
         calls, library = read_calls(text, frames)
         exported = sorted(each.strip('"') for each in re.findall(r'^\t\.globl\t(\S+)', text, re.M))
-        stack = {name: deepest(name, frames, calls) for name in exported}
+        stack = {call: deepest(call, frames, calls) for call in exported}
     except Unbounded as reason:
-        sys.exit(f'{folder}: no bound on the stack: {reason}')
-    for name, size in stack.items():
-        print(f'{name:22}{size:6}')
+        sys.exit(f'{name}: no bound on the stack: {reason}')
+    for call, size in stack.items():
+        print(f'{call:22}{size:6}')
     print('C library:', ' '.join(sorted(set().union(*library.values()))))
-    over = [name for name, size in stack.items() if bound is not None and size > bound]
+    over = [call for call, size in stack.items() if bound is not None and size > bound]
     if over:
-        sys.exit(f'{folder}: more than {bound} bytes of stack: {" ".join(over)}')
+        sys.exit(f'{name}: more than {bound} bytes of stack: {" ".join(over)}')
 
 
 if __name__ == '__main__':

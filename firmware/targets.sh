@@ -1,4 +1,8 @@
-# The controllers that archives are made for, for the scripts that source this file, and what the kit's clang is told.
+# What archives are made of and for, for the scripts that source this file, and what the kit's clang is told.
+
+# The crates of C calls: each is a member of the archive by itself, so that a host links what it calls.
+crates="cxpi cxpi_batch"
+
 controllers="cortex-m0plus cortex-m3 cortex-m4 cortex-m4f rv32imac"
 
 # clang_flags TARGET

@@ -15,6 +15,7 @@
  *   cxpi_write            4 to 8 of the plan record; 10 for the set buffer
  *   cxpi_*_power_on       10 for the state buffer
  *   cxpi_*_step           4 to 8 of the plan record; 10 for the reply buffer; 11; 15; 16; the rest by number: 12, 13, 14, 17 to 21
+ *   cxpi_master_batch     22; the numbers of a step stand in the reply records, in a step's order
  *   cxpi_node_configure   11 for another length of the identity; 23; 24; 10 for the answer buffer
  *
  * A plan record of another length than CXPI_PLAN_LENGTH is taken for the all-zero record, which is 4. A state of another length is 11,
@@ -27,6 +28,7 @@
  *   cxpi_*_power_on       the state buffer as it was
  *   cxpi_*_step           in the reply zeros, which are no command and none lost, but for the node that 20 names; the state as it was,
  *                         but that 13 and 14 change the master's
+ *   cxpi_master_batch     after 22 every byte as it was; an event that is refused leaves what its step leaves, and those after it run
  *   cxpi_node_configure   length 0, address and answer buffer as they were
  *
  * A buffer that is too short is never written, and bytes past what is written stay in every call.
@@ -44,7 +46,7 @@ extern "C" {
 #endif
 
 /* The version of calls and layouts, which each change of either raises. A host compares the archive's with its header's at start. */
-#define CXPI_VERSION 2
+#define CXPI_VERSION 3
 
 uint32_t cxpi_version(void);
 
@@ -71,6 +73,7 @@ uint32_t cxpi_version(void);
 #define CXPI_NOT_PERMITTED 19 /* master's own permission is no */
 #define CXPI_NOT_HELD 20      /* a node's permission is not held; CXPI_MASTER_REPLY_NODE_AT has the lowest such node */
 #define CXPI_NOT_ASKED 21     /* polled node not yet asked */
+#define CXPI_REPLIES_SHORT 22 /* fewer reply records than event records */
 #define CXPI_WRONG_REQUEST 23 /* request empty, of 2E hex and not 8 bytes long, or of 22 hex and not 3 */
 #define CXPI_NOT_SUPPORTED 24 /* request of any other service or identifier */
 
@@ -190,6 +193,33 @@ uint32_t cxpi_master_power_on(uint8_t *state, size_t state_length);
 /* A step of the master under a plan. */
 uint32_t cxpi_master_step(const uint8_t *plan, size_t plan_length, uint8_t *state, size_t state_length, const uint8_t *event,
                           size_t event_length, uint8_t *reply, size_t reply_length);
+
+/* An event of the master as a record of the machine's own numbers: a kind, then what the event has. What a kind does not use is ignored. */
+struct cxpi_master_event {
+    uint8_t kind;       /* CXPI_MASTER_TICK to CXPI_MASTER_SEND_RESULT; another is no event (15) */
+    uint8_t reqid;      /* an answer's, as in its event of bytes, up to wake */
+    uint16_t result;
+    uint16_t length;
+    uint8_t count;
+    uint8_t permission; /* 0 or 1; above that no event */
+    uint8_t wake;       /* 0 or 1; above that no event */
+    uint8_t flag;       /* of CXPI_MASTER_PERMISSION 1 yes, 0 no; of CXPI_MASTER_SEND_RESULT 1 sent, 0 failed; above that no event */
+};
+
+/* What a step gives back, as a record. */
+struct cxpi_master_reply {
+    uint8_t refusal;
+    uint8_t node;    /* the node that CXPI_NOT_HELD names, 0 with every other number */
+    uint8_t command; /* CXPI_MASTER_NOTHING to CXPI_SEND_SLEEP_MESSAGE */
+    uint8_t lost;    /* answers lost before this one, 0 to 3 */
+};
+
+/* The events of a frame slot in one call: as a step for each in their order, a refused one included. The lists pass as arrays and the
+ * number of their records. Returns 22 or 0; after 0 every event has its reply, the plan's numbers and 11 in each where plan or state are
+ * refused. Reply records past the last event stay; with no events nothing is judged. */
+uint32_t cxpi_master_batch(const uint8_t *plan, size_t plan_length, uint8_t *state, size_t state_length,
+                           const struct cxpi_master_event *events, size_t event_count, struct cxpi_master_reply *replies,
+                           size_t reply_count);
 
 /* A node's state. A state is in range where each field is within its limit, by the plan's times. */
 #define CXPI_NODE_LENGTH 143

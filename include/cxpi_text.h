@@ -55,6 +55,8 @@ static inline const char *cxpi_refusal_text(uint32_t number) {
         return "a node's permission is not held";
     case CXPI_NOT_ASKED:
         return "the polled node is not yet asked";
+    case CXPI_REPLIES_SHORT:
+        return "the list of replies is shorter than the list of events";
     case CXPI_WRONG_REQUEST:
         return "the request is empty, or its length is not its service's";
     case CXPI_NOT_SUPPORTED:

@@ -2,7 +2,8 @@
  *
  * On a real unit the tick is a timer interrupt, the bus is the CXPI driver, and the unit runs the master or one node. Here all of them
  * run in one program. Node 0 is given its address and tells its identity, as on the moulding line; then document 01's twelve moves are
- * made, and after each the line that document 01 gives is printed, and indented what the nodes and the machines sent and commanded. Only the headers and the archive are used; see README.md for how to compile. */
+ * made, and after each the line that document 01 gives is printed, and indented what the nodes and the machines sent and commanded; then a
+ * master takes the events of a frame slot in one call. Only the headers and the archive are used; see README.md for how to compile. */
 #include <signal.h>
 #include <stdbool.h>
 #include <stdio.h>
@@ -304,6 +305,28 @@ static uint32_t read_set(const char *path) {
     return cxpi_read(set, length, plan, sizeof plan);
 }
 
+/* What a unit gathered between two interrupts, handed over in one call: from power-on to the clock's stop. */
+static void frame_slot(void) {
+    static const struct cxpi_master_event queue[] = {
+        {.kind = CXPI_MASTER_WAKE},
+        {.kind = CXPI_MASTER_TICK},
+        {.kind = CXPI_MASTER_ANSWER, .reqid = 16, .length = 2, .permission = 1},
+        {.kind = CXPI_MASTER_SLEEP},
+        {.kind = CXPI_MASTER_PERMISSION, .flag = 1},
+        {.kind = CXPI_MASTER_SLEEP},
+        {.kind = CXPI_MASTER_SEND_RESULT, .flag = 1},
+        {.kind = CXPI_MASTER_TICK},
+        {.kind = CXPI_MASTER_TICK},
+    };
+    enum { EVENTS = sizeof queue / sizeof queue[0] };
+    struct cxpi_master_reply replies[EVENTS];
+    cxpi_master_power_on(master, sizeof master);
+    cxpi_master_batch(plan, sizeof plan, master, sizeof master, queue, EVENTS, replies, EVENTS);
+    for (unsigned place = 0; place < EVENTS; place++) {
+        printf("event %u: refusal %u, command %u\n", place, replies[place].refusal, replies[place].command);
+    }
+}
+
 int main(int count, char **arguments) {
     if (cxpi_version() != CXPI_VERSION) {
         printf("the archive and the header differ in their version\n");
@@ -320,5 +343,6 @@ int main(int count, char **arguments) {
     }
     configure_on_the_line();
     main_loop();
+    frame_slot();
     return 0;
 }

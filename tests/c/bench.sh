@@ -26,7 +26,7 @@ bench_of() {
     for part in big_plan reference_packed reference; do
         $compiler $flags "$@" -c $independent/$part.c -o $out/${name}_$part.o
     done
-    gcc $flags -O2 tests/c/bench.c $out/${name}_big_plan.o $out/${name}_reference_packed.o $out/${name}_reference.o target/staticlib/libcxpi.a \
+    gcc $flags -O2 tests/c/bench.c $out/${name}_big_plan.o $out/${name}_reference_packed.o $out/${name}_reference.o target/lib/libcxpi.a \
         -o $out/bench_$name
 }
 

@@ -21,12 +21,12 @@ static void put_two(uint8_t *bytes, uint32_t number) {
 
 /* What came */
 
-enum { READ, WRITE, MASTER_POWER_ON, NODE_POWER_ON, MASTER_STEP, NODE_STEP, EXPORTS };
+enum { READ, WRITE, MASTER_POWER_ON, NODE_POWER_ON, MASTER_STEP, NODE_STEP, MASTER_BATCH, EXPORTS };
 
-static const char *const export_names[EXPORTS] = {"cxpi_read",          "cxpi_write",       "cxpi_master_power_on",
-                                                  "cxpi_node_power_on", "cxpi_master_step", "cxpi_node_step"};
+static const char *const export_names[EXPORTS] = {"cxpi_read",        "cxpi_write",     "cxpi_master_power_on", "cxpi_node_power_on",
+                                                  "cxpi_master_step", "cxpi_node_step", "cxpi_master_batch"};
 
-enum { NUMBERS = 22, OTHER_NUMBER = NUMBERS };
+enum { NUMBERS = 23, OTHER_NUMBER = NUMBERS };
 
 /* The numbers that include/cxpi.h names for each export; -1 ends a list. */
 static const int expected_numbers[EXPORTS][NUMBERS] = {
@@ -36,6 +36,7 @@ static const int expected_numbers[EXPORTS][NUMBERS] = {
     {0, 10, -1},
     {0, 4, 5, 6, 7, 8, 10, 11, 12, 13, 14, 15, 16, 17, 18, 19, 20, -1},
     {0, 4, 5, 6, 7, 8, 10, 11, 12, 15, 16, 21, -1},
+    {0, 22, -1},
 };
 
 static uint64_t came[EXPORTS][OTHER_NUMBER + 1];
@@ -44,6 +45,7 @@ static uint64_t named[REFERENCE_NODES]; /* by 20 */
 static uint64_t commands[2][4];         /* of the master, of a node */
 static uint64_t lost[4];
 static uint64_t round_trips;
+static uint64_t batch_events; /* in lists that were not refused */
 static uint64_t differences;
 
 static void count_result(int export, uint32_t result) {
@@ -707,6 +709,95 @@ static void compare_node_step(network *walked) {
     }
 }
 
+/* Lists of the master's events, against the reference and against a step for each event */
+
+enum { MOST_EVENTS = 40, MOST_REPLIES = MOST_EVENTS + 8 };
+
+static struct cxpi_master_event batch[MOST_EVENTS];
+static struct cxpi_master_reply subject_replies[MOST_REPLIES], reference_replies[MOST_REPLIES];
+
+static void random_event_record(const reference_plan *plan, struct cxpi_master_event *record) {
+    uint8_t event[16], *bytes = (uint8_t *)record;
+    random_bytes(bytes, sizeof *record);
+    size_t length = random_master_event(plan, event);
+    record->kind = event[0];
+    if (length == 9) {
+        record->reqid = event[1];
+        record->result = (uint16_t)(event[2] << 8 | event[3]);
+        record->length = (uint16_t)(event[4] << 8 | event[5]);
+        record->count = event[6];
+        record->permission = event[7];
+        record->wake = event[8];
+    } else if (length == 2) {
+        record->flag = event[1];
+    }
+    if (percent(4)) {
+        bytes[below(sizeof *record)] = random_byte();
+    }
+}
+
+/* The bytes of the same event; an unknown kind by itself is none either. */
+static size_t event_bytes(const struct cxpi_master_event *record, uint8_t *event) {
+    event[0] = record->kind;
+    if (record->kind == CXPI_MASTER_ANSWER) {
+        event[1] = record->reqid;
+        put_two(event + 2, record->result);
+        put_two(event + 4, record->length);
+        event[6] = record->count;
+        event[7] = record->permission;
+        event[8] = record->wake;
+        return 9;
+    }
+    event[1] = record->flag;
+    return record->kind == CXPI_MASTER_PERMISSION || record->kind == CXPI_MASTER_SEND_RESULT ? 2 : 1;
+}
+
+/* Says whether steps event by event leave the state and the replies of the reference's list. */
+static bool steps_agree(const step *made, size_t count) {
+    uint8_t event[16], reply[CXPI_MASTER_REPLY_LENGTH];
+    bool same = true;
+    lent_fill(&subject_state, made->state, made->state_length);
+    for (size_t place = 0; place < count; place++) {
+        const struct cxpi_master_reply *given = &reference_replies[place];
+        size_t length = event_bytes(&batch[place], event);
+        uint32_t refusal = cxpi_master_step(lent_bytes(&subject_step_plan), made->plan_length, lent_bytes(&subject_state),
+                                            made->state_length, event, length, reply, sizeof reply);
+        same = same && refusal == given->refusal && reply[0] == given->command && reply[1] == given->lost && reply[2] == given->node;
+    }
+    return same && lent_same(&subject_state, &reference_state);
+}
+
+static void compare_master_batch(network *walked) {
+    static step made;
+    const reference_plan *plan = &walked->plan->record;
+    size_t count = below(MOST_EVENTS + 1);
+    size_t room = percent(90) ? count + (percent(50) ? 0 : below(9)) : below((uint32_t)count + 1);
+    choose_plan(&made, walked->plan);
+    bool walking = choose_state(&made, plan, walked->master, true);
+    for (size_t place = 0; place < count; place++) {
+        random_event_record(plan, &batch[place]);
+    }
+    lend_step(&made);
+    memset(subject_replies, LENT_PAINT, sizeof subject_replies);
+    memset(reference_replies, LENT_PAINT, sizeof reference_replies);
+    uint32_t got = cxpi_master_batch(lent_bytes(&subject_step_plan), made.plan_length, lent_bytes(&subject_state), made.state_length,
+                                     batch, count, subject_replies, room);
+    uint32_t wanted = reference_cxpi_master_batch(lent_bytes(&reference_step_plan), made.plan_length, lent_bytes(&reference_state),
+                                                  made.state_length, batch, count, reference_replies, room);
+    count_result(MASTER_BATCH, wanted);
+    bool same = step_same() && memcmp(subject_replies, reference_replies, sizeof subject_replies) == 0;
+    if (wanted == CXPI_DONE) {
+        batch_events += count;
+        same = same && steps_agree(&made, count);
+    }
+    if (got != wanted || !same) {
+        differ(MASTER_BATCH, got, wanted);
+    }
+    if (walking && made.plan == walked->plan->bytes) {
+        memcpy(walked->master, lent_bytes(&reference_state), CXPI_MASTER_LENGTH);
+    }
+}
+
 static void compare_steps(uint64_t steps) {
     make_pool();
     for (size_t place = 0; place < NETWORKS; place++) {
@@ -717,7 +808,9 @@ static void compare_steps(uint64_t steps) {
         if (below(2000) == 0) {
             start_network(walked);
         }
-        if (percent(50)) {
+        if (percent(3)) {
+            compare_master_batch(walked);
+        } else if (percent(50)) {
             compare_master_step(walked);
         } else {
             compare_node_step(walked);
@@ -752,7 +845,7 @@ static bool print_counts(const char *name, const uint64_t *counts, size_t length
 static bool print_table(bool sets, bool steps) {
     bool all = true;
     for (int export = 0; export < EXPORTS; export ++) {
-        bool run = export == READ || export == WRITE ? sets : export == MASTER_STEP || export == NODE_STEP ? steps : true;
+        bool run = export == READ || export == WRITE ? sets : export >= MASTER_STEP ? steps : true;
         all = (!run || print_results(export)) && all;
     }
     if (sets) {
@@ -781,6 +874,7 @@ int main(int count, char **arguments) {
     compare_sets(sets);
     compare_steps(steps);
     bool all = print_table(sets > 0, steps > 0);
-    printf("%" PRIu64 " steps, %" PRIu64 " sets, seed %" PRIu64 ": %" PRIu64 " differences\n", steps, sets, seed, differences);
+    printf("%" PRIu64 " steps, %" PRIu64 " events in lists, %" PRIu64 " sets, seed %" PRIu64 ": %" PRIu64 " differences\n", steps,
+           batch_events, sets, seed, differences);
     return all && differences == 0 ? EXIT_SUCCESS : EXIT_FAILURE;
 }

@@ -1118,7 +1118,7 @@ int main(int count, char **arguments) {
     if (count > 1) {
         test_file(arguments[1]);
     }
-    check(cxpi_version() == 2, "version");
+    check(cxpi_version() == 3, "version");
     end_group("version");
     test_read_lengths();
     test_read_bytes();

@@ -16,3 +16,5 @@ const char *(*refusal_text)(uint32_t) = cxpi_refusal_text;
 uint32_t (*node_step)(const uint8_t *, size_t, uint8_t, uint8_t *, size_t, const uint8_t *, size_t, uint8_t *, size_t) = cxpi_node_step;
 uint32_t (*node_configure)(const uint8_t *, size_t, uint8_t *, const uint8_t *, size_t, uint8_t *, size_t, uint8_t *) = cxpi_node_configure;
 }
+uint32_t (*master_batch)(const uint8_t *, size_t, uint8_t *, size_t, const struct cxpi_master_event *, size_t, struct cxpi_master_reply *,
+                         size_t) = cxpi_master_batch;

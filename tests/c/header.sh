@@ -1,10 +1,10 @@
 #!/bin/sh
 # Tests the headers: by the oldest and newest standards of C and C++ that they are for; their numbers against LAYOUTS.md, definitions and
-# archive; the refusals' words. Takes the archive of rt staticlib and the program show.
+# archive; the refusals' words. Takes the archive of firmware/module.sh and the program show.
 set -eu
 cd "$(dirname "$0")/../.."
 out=target/c
-archive=target/staticlib/libcxpi.a
+archive=target/lib/libcxpi.a
 strict="-Wall -Wextra -Werror -pedantic"
 
 for header in cxpi.h cxpi_text.h; do

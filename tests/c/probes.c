@@ -391,6 +391,20 @@ static void probe_node(void) {
     IS(step_node(0, 0) == CXPI_NO_EVENT);
 }
 
+/* A list of events: fewer replies than events is refused, and a list's reply is its step's. */
+static void probe_batch(void) {
+    struct cxpi_master_event events[2] = {{.kind = CXPI_MASTER_WAKE}, {.kind = CXPI_MASTER_SLEEP}};
+    struct cxpi_master_reply replies[2] = {{9, 9, 9, 9}, {9, 9, 9, 9}};
+    make_set();
+    IS(cxpi_read(set, 1024, plan, CXPI_PLAN_LENGTH) == CXPI_DONE);
+    IS(cxpi_master_power_on(state, CXPI_MASTER_LENGTH) == CXPI_DONE);
+    IS(cxpi_master_batch(plan, CXPI_PLAN_LENGTH, state, CXPI_MASTER_LENGTH, events, 2, replies, 1) == CXPI_REPLIES_SHORT);
+    IS(replies[0].refusal == 9 && state[CXPI_MASTER_STATE_AT] == CXPI_SLEEP);
+    IS(cxpi_master_batch(plan, CXPI_PLAN_LENGTH, state, CXPI_MASTER_LENGTH, events, 2, replies, 2) == CXPI_DONE);
+    IS(replies[0].refusal == CXPI_DONE && state[CXPI_MASTER_STATE_AT] == CXPI_STANDBY);
+    IS(replies[1].refusal == CXPI_NEEDS_NORMAL && replies[1].command == CXPI_MASTER_NOTHING);
+}
+
 /* The node configuration */
 
 static uint8_t identity[ROOM], answer[ROOM], address, answer_length;
@@ -445,6 +459,7 @@ int main(void) {
     probe_refusals_of_sets();
     probe_master();
     probe_node();
+    probe_batch();
     probe_configuration();
     printf("%u probes by the header's constants, %u wrong\n", probes, wrong);
     return wrong == 0 ? EXIT_SUCCESS : EXIT_FAILURE;

@@ -5,7 +5,7 @@
 set -eu
 cd "$(dirname "$0")/../.."
 out=target/c
-archive=target/staticlib/libcxpi.a
+archive=target/lib/libcxpi.a
 independent=tests/independent
 reference="$independent/reference_packed.c $independent/reference.c"
 flags="-std=c11 -Wall -Wextra -Werror -pedantic"
@@ -18,7 +18,7 @@ last_line() {
 }
 
 mkdir -p $out
-# Proves nothing again after rt ci, but for cxpi, which is proved with its archive; its module is kept for the controllers.
+# Proves nothing again after rt ci, but for the crates of C calls, which are proved with their archive; their modules are kept for the controllers.
 rt check drill replay replay_states show > $out/log 2>&1 || { cat $out/log; exit 1; }
 sh firmware/module.sh
 sh tests/c/symbols.sh $archive include/cxpi.h

@@ -14,6 +14,7 @@
 #define cxpi_node_power_on reference_cxpi_node_power_on
 #define cxpi_master_step reference_cxpi_master_step
 #define cxpi_node_step reference_cxpi_node_step
+#define cxpi_master_batch reference_cxpi_master_batch
 #define cxpi_node_configure reference_cxpi_node_configure
 #endif
 

@@ -14,11 +14,19 @@ typedef struct {
     uint32_t (*node_power_on)(uint8_t *, size_t);
     uint32_t (*master_step)(const uint8_t *, size_t, uint8_t *, size_t, const uint8_t *, size_t, uint8_t *, size_t);
     uint32_t (*node_step)(const uint8_t *, size_t, uint8_t, uint8_t *, size_t, const uint8_t *, size_t, uint8_t *, size_t);
+    uint32_t (*master_batch)(const uint8_t *, size_t, uint8_t *, size_t, const struct cxpi_master_event *, size_t,
+                             struct cxpi_master_reply *, size_t);
 } side;
 
-static const side product = {cxpi_read, cxpi_write, cxpi_master_power_on, cxpi_node_power_on, cxpi_master_step, cxpi_node_step};
-static const side baseline = {reference_cxpi_read,          reference_cxpi_write,       reference_cxpi_master_power_on,
-                              reference_cxpi_node_power_on, reference_cxpi_master_step, reference_cxpi_node_step};
+static const side product = {cxpi_read,        cxpi_write,     cxpi_master_power_on, cxpi_node_power_on,
+                             cxpi_master_step, cxpi_node_step, cxpi_master_batch};
+static const side baseline = {reference_cxpi_read,
+                              reference_cxpi_write,
+                              reference_cxpi_master_power_on,
+                              reference_cxpi_node_power_on,
+                              reference_cxpi_master_step,
+                              reference_cxpi_node_step,
+                              reference_cxpi_master_batch};
 
 /* Functions that do nothing, for what the harness itself takes. */
 
@@ -50,7 +58,14 @@ static uint32_t no_node_step(const uint8_t *plan, size_t plan_length, uint8_t no
     return 0;
 }
 
-static const side nothing = {no_read, no_write, no_power_on, no_power_on, no_master_step, no_node_step};
+static uint32_t no_master_batch(const uint8_t *plan, size_t plan_length, uint8_t *state, size_t state_length,
+                                const struct cxpi_master_event *events, size_t event_count, struct cxpi_master_reply *replies,
+                                size_t reply_count) {
+    (void)plan, (void)plan_length, (void)state, (void)state_length, (void)events, (void)event_count, (void)replies, (void)reply_count;
+    return 0;
+}
+
+static const side nothing = {no_read, no_write, no_power_on, no_power_on, no_master_step, no_node_step, no_master_batch};
 
 /* Inputs of a plan */
 
@@ -163,6 +178,47 @@ static uint32_t run_node_tick(const side *tested, size_t turn) {
     return tested->node_step(plan, sizeof plan, node_number, node, sizeof node, event, sizeof event, reply, sizeof reply);
 }
 
+/* A frame slot: whole answers, and a tick after each third. */
+enum { SLOT = 32 };
+
+static struct cxpi_master_event slot[SLOT];
+
+static void fill_slot(size_t turn) {
+    memcpy(master, held_master, sizeof master);
+    for (size_t place = 0; place < SLOT; place++) {
+        const uint8_t *answer = answers[(turn * SLOT + place) % answer_count];
+        slot[place] = (struct cxpi_master_event){.kind = CXPI_MASTER_TICK};
+        if (place % 4 != 3) {
+            slot[place] = (struct cxpi_master_event){.kind = CXPI_MASTER_ANSWER,
+                                                     .reqid = answer[CXPI_ANSWER_REQID_AT],
+                                                     .length = answer[CXPI_ANSWER_DATA_LENGTH_AT + 1],
+                                                     .count = answer[CXPI_ANSWER_COUNT_AT],
+                                                     .permission = 1};
+        }
+    }
+}
+
+static uint32_t run_master_batch(const side *tested, size_t turn) {
+    struct cxpi_master_reply replies[SLOT];
+    fill_slot(turn);
+    return tested->master_batch(plan, sizeof plan, master, sizeof master, slot, SLOT, replies, SLOT);
+}
+
+/* The same slot, a call for each event. */
+static uint32_t run_slot_by_steps(const side *tested, size_t turn) {
+    static const uint8_t tick[1] = {CXPI_MASTER_TICK};
+    uint8_t reply[CXPI_MASTER_REPLY_LENGTH];
+    uint32_t refused = 0;
+    fill_slot(turn);
+    for (size_t place = 0; place < SLOT; place++) {
+        const uint8_t *answer = answers[(turn * SLOT + place) % answer_count];
+        bool is_tick = place % 4 == 3;
+        refused |= tested->master_step(plan, sizeof plan, master, sizeof master, is_tick ? tick : answer, is_tick ? 1 : 9, reply,
+                                       sizeof reply);
+    }
+    return refused;
+}
+
 typedef struct {
     const char *name;
     uint32_t (*run)(const side *, size_t);
@@ -177,6 +233,8 @@ static const workload workloads[] = {
     {"`cxpi_master_step`, a tick", run_master_tick},
     {"`cxpi_node_step`, a request", run_node_request},
     {"`cxpi_node_step`, a tick", run_node_tick},
+    {"`cxpi_master_batch`, 32 events", run_master_batch},
+    {"`cxpi_master_step`, the same 32", run_slot_by_steps},
 };
 
 enum { WORKLOADS = sizeof workloads / sizeof workloads[0] };

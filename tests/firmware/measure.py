@@ -2,12 +2,14 @@
 """Prints what measure.sh measured as tables, the exports beside C, and which bars are missed.
 
 Usage: measure.py WORK TARGET..: WORK has for each target and variant a folder with what measure.c printed (measured), and with the level of
-optimisation and the sizes of exports and C (sizes)."""
+optimisation and the sizes of exports and C for each crate of calls (sizes)."""
 import sys
 
 VARIANTS = ('fast', 'small')
-# The bars: a call's instructions to C's in the fast variant, the code and constants of all calls to C's in the small one.
+# The bars: a call's instructions to C's in the fast variant, the code and constants of a crate's calls to C's in the small one.
 INSTRUCTIONS_BAR = 1.1
+BATCH = '`cxpi_master_batch`'
+BATCH_BAR = 1.0
 SIZE_BAR = 1.8
 
 
@@ -39,8 +41,10 @@ def main():
             for line in read(f'{work}/{target}-{variant}/measured').splitlines():
                 plan, call, *numbers = line.split('\t')
                 measured.setdefault((target, plan), {}).setdefault(call, []).append([int(number) for number in numbers])
-            levels[variant], *numbers = read(f'{work}/{target}-{variant}/sizes').split()
-            sizes.setdefault(target, []).append([int(number) for number in numbers])
+            levels[variant], *lines = read(f'{work}/{target}-{variant}/sizes').splitlines()
+            for line in lines:
+                crate, *numbers = line.split()
+                sizes.setdefault(f'{target}, {crate}', []).append([int(number) for number in numbers])
     against = [cell for variant, level in levels.items() for cell in (variant, f'C {level}', 'ratio')]
     stacks = [cell for variant, level in levels.items() for cell in (f'stack, {variant}', f'C {level}')]
     for (target, plan), calls in measured.items():
@@ -48,8 +52,9 @@ def main():
         for call, variants in calls.items():
             row([call, *pairs(numbers[:2] for numbers in variants), *[size for numbers in variants for size in numbers[2:]]])
             ratio = variants[0][0] / variants[0][1]
-            if ratio > INSTRUCTIONS_BAR:
-                missed.append(f'{target}, {plan}, {call}: {ratio:.2f} of C, the bar is {INSTRUCTIONS_BAR}')
+            bar = BATCH_BAR if call.startswith(BATCH) else INSTRUCTIONS_BAR
+            if ratio > bar:
+                missed.append(f'{target}, {plan}, {call}: {ratio:.2f} of C, the bar is {bar}')
     head('bytes of code and constants', against)
     for target, variants in sizes.items():
         row([target, *pairs(variants)])

@@ -1,6 +1,6 @@
 #!/bin/sh
 # Instructions, stack and size of the calls on emulated controllers, beside the independent implementation by the same compiler at the same
-# optimisation. Takes the module that firmware/module.sh kept.
+# optimisation. Takes the modules that firmware/module.sh kept.
 set -eu
 cd "$(dirname "$0")/../.."
 . firmware/targets.sh
@@ -42,11 +42,12 @@ measure() {
         cat "$work/measured"
         exit 1
     }
-    nm -g --defined-only "$archive" | awk 'NF == 3 { print $3 }' > $out/calls
     {
         optimisation "$2"
-        size_of "" "$archive"
-        size_of reference_ "$work/reference.o" "$work/reference_packed.o"
+        for crate in $crates; do
+            nm -g --defined-only "$work/$crate.o" | awk 'NF == 3 { print $3 }' > $out/calls
+            echo "$crate $(size_of "" "$archive") $(size_of reference_ "$work/reference.o" "$work/reference_packed.o")"
+        done
     } > "$work/sizes"
 }
 

@@ -1,7 +1,7 @@
 #!/bin/sh
 # Tests the archives for controllers: what retarget.py must refuse and take; each archive's origin and the stack of its calls; the C tests
 # with 32-bit pointers, on this machine and on emulated boards, every lent buffer at an odd address. What cannot run for want of packages is
-# left out, and the last line says so. Takes the module that firmware/module.sh kept. Run: sh tests/firmware/run.sh [TARGET-VARIANT]..
+# left out, and the last line says so. Takes the modules that firmware/module.sh kept. Run: sh tests/firmware/run.sh [TARGET-VARIANT]..
 set -eu
 cd "$(dirname "$0")/../.."
 . firmware/targets.sh
@@ -42,16 +42,19 @@ test_archive() {
 }
 
 sh tests/firmware/install_test.sh
-python3 tests/firmware/retarget_test.py $out/module.ll include/cxpi.h
+for crate in $crates; do python3 tests/firmware/retarget_test.py $out/modules/$crate.ll include/cxpi.h; done
 python3 tests/firmware/stack_test.py
 
 sh firmware/archives.sh > $out/made
 most=0
 for made in $(cut -d / -f 3 $out/made); do
-    grep -q '^verdict  *logic=proved ' $out/"$made"/origin.txt
+    grep -q '^verdict  *cxpi: logic=proved ' $out/"$made"/origin.txt
+    grep -q '^verdict  *cxpi_batch: logic=proved ' $out/"$made"/origin.txt
     (cd $out/"$made" && grep -E '^[0-9a-f]{64} ' origin.txt | sha256sum --check --strict --quiet)
-    python3 firmware/stack.py $out/work/"$made" $stack_bound > $out/log
-    most=$(awk -v most="$most" '/^cxpi_/ && $2 > most { most = $2 } END { print most }' $out/log)
+    for crate in $crates; do
+        python3 firmware/stack.py $out/work/"$made"/$crate $stack_bound > $out/log
+        most=$(awk -v most="$most" '/^cxpi_/ && $2 > most { most = $2 } END { print most }' $out/log)
+    done
 done
 echo "$(wc -l < $out/made) archives for controllers; a call takes $most bytes of stack at most, $stack_bound are allowed"
 

@@ -65,7 +65,7 @@ def main():
             for file_name, text in (('cxpi.s', assembly), ('cxpi.su', frames)):
                 with open(os.path.join(folder, file_name), 'w', encoding='utf-8') as file:
                     file.write(text)
-            run = subprocess.run([sys.executable, SCRIPT, folder, *bound.split()], capture_output=True, text=True, check=False)
+            run = subprocess.run([sys.executable, SCRIPT, os.path.join(folder, 'cxpi'), *bound.split()], capture_output=True, text=True, check=False)
             if output not in run.stdout or (run.returncode == 0) != (error is None) or (error or '') not in run.stderr:
                 wrong.append(f'{name}: status {run.returncode}, {run.stdout!r}, {run.stderr!r}')
     if wrong:

@@ -69,7 +69,7 @@ static void take_plan(const uint8_t *bytes, size_t length, reference_plan *plan)
 }
 
 uint32_t reference_cxpi_version(void) {
-    return 2;
+    return 3;
 }
 
 uint32_t reference_cxpi_read(const uint8_t *set, size_t set_length, uint8_t *plan, size_t plan_length) {
@@ -195,6 +195,52 @@ uint32_t reference_cxpi_master_step(const uint8_t *plan, size_t plan_length, uin
     reply[1] = given.lost;
     reply[2] = given.node;
     return refusal;
+}
+
+static reference_master_event master_event_of(const struct cxpi_master_event *record) {
+    return (reference_master_event){.kind = record->kind,
+                                    .reqid = record->reqid,
+                                    .result = record->result,
+                                    .length = record->length,
+                                    .count = record->count,
+                                    .permission = record->kind == CXPI_MASTER_PERMISSION ? record->flag : record->permission,
+                                    .wake = record->wake,
+                                    .sent = record->flag};
+}
+
+uint32_t reference_cxpi_master_batch(const uint8_t *plan, size_t plan_length, uint8_t *state, size_t state_length,
+                                     const struct cxpi_master_event *events, size_t event_count, struct cxpi_master_reply *replies,
+                                     size_t reply_count) {
+    reference_plan record;
+    reference_master master;
+    if (reply_count < event_count) {
+        return CXPI_REPLIES_SHORT;
+    }
+    if (event_count == 0) {
+        return CXPI_DONE;
+    }
+    take_plan(plan, plan_length, &record);
+    uint32_t standing = reference_plan_refusal(&record);
+    if (standing == 0 && state_length != CXPI_MASTER_LENGTH) {
+        standing = CXPI_NO_STATE;
+    }
+    if (standing == 0) {
+        unpack_master(state, &master);
+        standing = reference_master_in_range(&record, &master) ? CXPI_DONE : CXPI_NO_STATE;
+    }
+    for (size_t place = 0; place < event_count; place++) {
+        reference_master_reply given = {0};
+        uint32_t refusal = standing;
+        if (standing == 0) {
+            reference_master_event event = master_event_of(&events[place]);
+            refusal = reference_master_act(&record, &master, &event, &given);
+        }
+        replies[place] = (struct cxpi_master_reply){(uint8_t)refusal, given.node, given.command, given.lost};
+    }
+    if (standing == 0) {
+        reference_pack_master(&master, state);
+    }
+    return CXPI_DONE;
 }
 
 /* The node */

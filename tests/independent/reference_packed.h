@@ -5,6 +5,7 @@
 #include <stddef.h>
 #include <stdint.h>
 
+#include "cxpi.h"
 #include "reference.h"
 
 uint32_t reference_cxpi_version(void);
@@ -16,6 +17,9 @@ uint32_t reference_cxpi_master_step(const uint8_t *plan, size_t plan_length, uin
                                     size_t event_length, uint8_t *reply, size_t reply_length);
 uint32_t reference_cxpi_node_step(const uint8_t *plan, size_t plan_length, uint8_t node, uint8_t *state, size_t state_length,
                                   const uint8_t *event, size_t event_length, uint8_t *reply, size_t reply_length);
+uint32_t reference_cxpi_master_batch(const uint8_t *plan, size_t plan_length, uint8_t *state, size_t state_length,
+                                     const struct cxpi_master_event *events, size_t event_count, struct cxpi_master_reply *replies,
+                                     size_t reply_count);
 
 /* Packs a plan record into CXPI_PLAN_LENGTH bytes, and back. */
 void reference_pack_plan(const reference_plan *plan, uint8_t *bytes);

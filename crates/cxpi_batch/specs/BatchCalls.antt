@@ -1,0 +1,28 @@
+-- What the master's batch call leaves in the state's bytes.
+use Prim.Native.Nat.{ℕ}
+use mathlib.Core.List.{List}
+use lib.Dec.{eqb}
+use Rattle.folds.specs.Fold.{pick}
+use Rattle.plan.specs.declared.Plan.{Plan}
+use Rattle.plan.specs.Rules.{planRefusal}
+use Rattle.plan_bytes.specs.Record.{recordOf}
+use Rattle.master.specs.declared.Master.{Master}
+use Rattle.master.specs.Range.{inRange}
+use Rattle.master_events.specs.declared.EventRecord.{EventRecord}
+use Rattle.master_events.specs.declared.ReplyRecord.{ReplyRecord}
+use Rattle.master_batch.specs.Batch.{masterAfter, tooShort}
+use Rattle.master_bytes.specs.States.{masterBytes, masterOf}
+
+-- the number that plan or state give every event: "plan 4 to 8 first, then 11"
+unfoldable pub standing : Plan → Master → ℕ
+standing p m = pick (eqb (planRefusal p) 0) (pick (inRange (p .nodecount) (p .times) m) 0 11) (planRefusal p)
+
+-- under such a number: the bytes of a master where it is 0, else as they were
+abbrev pub leftUnder : ℕ → List ℕ → Master → List ℕ
+leftUnder number state m = pick (eqb number 0) (masterBytes m) state
+
+-- after the last event; "If the answer list is shorter than the event list nothing is done"
+abbrev pub batchLeaves : List ℕ → List ℕ → List EventRecord → List ReplyRecord → List ℕ
+batchLeaves plan state es rs =
+    pick (tooShort es rs) state
+    (leftUnder (standing (recordOf plan) (masterOf state)) state (masterAfter (recordOf plan) (masterOf state) es))

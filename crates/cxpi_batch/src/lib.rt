@@ -1,0 +1,145 @@
+// The C firmware host's call for the master's events of a frame slot. An archive of its own: the steps of `cxpi` stay as the compiler makes them.
+ghost use mathlib.Core.Path.{_≡_};
+ghost use Rattle.folds.specs.Fold.{pick};
+ghost use Rattle.plan.specs.declared.Lookup.{Lookup};
+ghost use Rattle.plan.specs.Find.{risingRow};
+ghost use Rattle.plan_bytes.specs.Record.{recordOf};
+ghost use Rattle.master_batch.specs.Batch.{stepped, batchOf, batchReplies};
+ghost use Rattle.master_bytes.specs.States.{masterBytes, masterOf};
+ghost use Rattle.master_in_place.specs.InPlace.{isKept, accepting};
+ghost use Rattle.cxpi_batch.specs.BatchCalls.{standing, leftUnder, batchLeaves};
+use master_bytes::master_of;
+use master_bytes::put_master;
+use master_bytes::step_on;
+use master_events::EventRecord;
+use master_events::ReplyRecord;
+use master_events::command_number;
+use master_events::event_of;
+use master_in_place::accepting;
+use master_in_place::age;
+use master_in_place::is_kept;
+use master_in_place::is_quiet;
+use master_in_place::keep_answer;
+use plan::Lookup;
+
+// The number that plan and state give every event. Where it is 0 the state's bytes are those that its master is packed in.
+fn number_of(plan: &[u8], state: &[u8]) -> u8
+    ensures { λ r. ⌜ (r ≡ standing (recordOf (now (plan .entry))) (masterOf (now (state .entry))))
+        × (now (state .entry) ≡ leftUnder r (now (state .entry)) (masterOf (now (state .entry)))) ⌝ }
+{
+    let refusal = plan_bytes::refusal_of(plan);
+    if refusal != 0 {
+        return refusal;
+    }
+    let times = plan_bytes::times_of(plan);
+    if master_of(state).in_range(plan_bytes::node_count(plan), times) {
+        0
+    } else {
+        11
+    }
+}
+
+// The same of a state that is lent to be written.
+fn opened(plan: &[u8], state: &mut [u8]) -> u8
+    ensures { λ r. ⌜ (r ≡ standing (recordOf (now (plan .entry))) (masterOf (now (state .entry))))
+        × (now (state .exit) ≡ leftUnder r (now (state .entry)) (masterOf (now (state .entry))))
+        × (masterOf (now (state .exit)) ≡ masterOf (now (state .entry))) ⌝ }
+{
+    number_of(plan, state)
+}
+
+// An event by the machine itself.
+fn machine_step(plan: &[u8], state: &mut [u8], event: EventRecord) -> ReplyRecord
+    requires { ⌜ standing (recordOf (now plan)) (masterOf (now state)) ≡ 0 ⌝ }
+    ensures { λ r. ⌜ (r ≡ stepped (recordOf (now (plan .entry))) (masterOf (now (state .entry))) event .reply)
+        × (now (state .exit) ≡ masterBytes (stepped (recordOf (now (plan .entry))) (masterOf (now (state .entry))) event .master))
+        × (masterOf (now (state .exit)) ≡ stepped (recordOf (now (plan .entry))) (masterOf (now (state .entry))) event .master) ⌝ }
+{
+    let given = step_on(plan, state, event_of(event));
+    let master = given.master;
+    let command = given.command;
+    put_master(state, master);
+    ReplyRecord {
+        refusal: given.refusal,
+        node: given.node,
+        command: command_number(command),
+        lost: given.lost,
+    }
+}
+
+// The row of an answer that is kept in the state's bytes.
+fn kept_row(plan: &[u8], state: &[u8], event: EventRecord) -> Lookup
+    ensures { λ r. ⌜ r ≡ pick (isKept (now (state .entry)) event) (accepting (risingRow (recordOf (now (plan .entry))) (event .reqid)) (event .length)) Lookup.Missing ⌝ }
+{
+    if is_kept(state, event) {
+        accepting(plan_bytes::rising_row_of(plan, event.reqid), event.length)
+    } else {
+        Lookup::Missing
+    }
+}
+
+// A reply that names no node and commands nothing.
+fn replied(refusal: u8, lost: u8) -> ReplyRecord
+    ensures { λ r. ⌜ r ≡ record { refusal = refusal; node = 0; command = 0; lost = lost } ⌝ }
+{
+    ReplyRecord {
+        refusal,
+        node: 0,
+        command: 0,
+        lost,
+    }
+}
+
+// The reply to an event under the number that plan and state give. Ticks and answers, which fill a slot, are done in the state's bytes where that is simple.
+fn reply_of(plan: &[u8], state: &mut [u8], number: u8, event: EventRecord) -> ReplyRecord
+    requires { ⌜ (number ≡ standing (recordOf (now plan)) (masterOf (now state))) × (now state ≡ leftUnder number (now state) (masterOf (now state))) ⌝ }
+    ensures { λ r. ⌜ (r ≡ stepped (recordOf (now (plan .entry))) (masterOf (now (state .entry))) event .reply)
+        × (now (state .exit) ≡ leftUnder number (now (state .entry)) (stepped (recordOf (now (plan .entry))) (masterOf (now (state .entry))) event .master))
+        × (masterOf (now (state .exit)) ≡ stepped (recordOf (now (plan .entry))) (masterOf (now (state .entry))) event .master) ⌝ }
+{
+    if number != 0 {
+        return replied(number, 0);
+    }
+    // A known length spares the tests of each byte.
+    if state.len() == master_bytes::LENGTH {
+        if is_quiet(state, event) {
+            let times = plan_bytes::times_of(plan);
+            age(state, plan_bytes::node_count(plan), times.window);
+            return replied(0, 0);
+        }
+        let row = kept_row(plan, state, event);
+        match row {
+            Lookup::Found(found) => {
+                let lost = keep_answer(state, found, event.count);
+                return replied(0, lost);
+            }
+            Lookup::Missing => {}
+        }
+    }
+    machine_step(plan, state, event)
+}
+
+// Each event in order, its reply to its own place. Plan and state are judged once.
+#[no_mangle]
+pub extern "C" fn cxpi_master_batch(
+    plan: &[u8],
+    state: &mut [u8],
+    events: &[EventRecord],
+    replies: &mut [ReplyRecord],
+) -> u32
+    ensures { λ r. ⌜ (r ≡ batchOf (recordOf (now (plan .entry))) (masterOf (now (state .entry))) (now (events .entry)) (now (replies .entry)) .refusal)
+        × (now (state .exit) ≡ batchLeaves (now (plan .entry)) (now (state .entry)) (now (events .entry)) (now (replies .entry)))
+        × (now (replies .exit) ≡ batchReplies (recordOf (now (plan .entry))) (masterOf (now (state .entry))) (now (events .entry)) (now (replies .entry))) ⌝ }
+{
+    if replies.len() < events.len() {
+        return 22;
+    }
+    let number = opened(plan, state);
+    let mut i = 0;
+    while i < events.len() {
+        let reply = reply_of(plan, state, number, events[i]);
+        replies[i] = reply;
+        i += 1;
+    }
+    0
+}
