@@ -14,7 +14,7 @@ use Rattle.node.specs.declared.Node.{Node}
 use Rattle.node.specs.declared.Reply.{Reply}
 use Rattle.node.specs.Changes.{withHeard, withDelay, silent, calls, refuse}
 use Rattle.node.specs.Ticks.{awakeTick, normalBy, callerTick, tickBy}
-use Rattle.node.specs.Waking.{pulseBy, wakeAskBy, permissionStep}
+use Rattle.node.specs.Waking.{pulseBy, callAnew, wakeAskBy, permissionStep}
 use Rattle.node.specs.Sending.{inNormal, sendStep, requestRow, requestStep, sendAskRow, sendAskStep}
 
 -- n itself where these are its own state, caller and delay
@@ -82,8 +82,11 @@ module _ (P : Reply → Type 0) (permitted : Bool) (quietly : (m : Node) → m .
         (λ k. by-test P (n .caller) (λ c. caller-any (t .recovery) n h) (λ c. by-test P (ltb (n .standby + 1) (t .space)) (λ l. quietly _ h) (λ l. quietly _ h)))
     tick-any t clock State.Sleep n h = by-test P clock (λ k. quietly _ h) (λ k. quietly _ h)
 
+    call-anew-any : (n : Node) → n .permission ≡ permitted → P (callAnew n)
+    call-anew-any n h = calling (callAnew n .node) h
+
     pub wake-ask-any : (state : State) (caller : Bool) (n : Node) → n .permission ≡ permitted → P (wakeAskBy state caller n)
-    wake-ask-any State.Normal caller n h = quietly _ h
+    wake-ask-any State.Normal caller n h = by-test P (n .error) (λ e. call-anew-any n h) (λ e. quietly n h)
     wake-ask-any State.Standby true n h = quietly _ h
     wake-ask-any State.Standby false n h = calling _ h
     wake-ask-any State.Sleep caller n h = calling _ h

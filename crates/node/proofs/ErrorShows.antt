@@ -11,8 +11,9 @@ use Rattle.plan.specs.declared.Times.{Times}
 use Rattle.node.specs.declared.Delay.{Delay}
 use Rattle.node.specs.declared.Node.{Node}
 use Rattle.node.specs.declared.Reply.{Reply}
+use Rattle.node.specs.Changes.{withWake}
 use Rattle.node.specs.Ticks.{awakeTick, tickStep}
-use Rattle.node.specs.Waking.{pulseStep, wakeAskStep, permissionStep}
+use Rattle.node.specs.Waking.{pulseStep, callAnew, wakeAskStep, permissionStep}
 use Rattle.node.proofs.Cases.{split}
 
 -- in Normal, and for a caller at the end of its wait
@@ -60,8 +61,11 @@ module _ (t : Times) where
   pulse-shows n State.Standby h = h
   pulse-shows n State.Sleep h = h
 
+  call-anew-shows : (n : Node) → Kept (callAnew n)
+  call-anew-shows n = λ e. no-way e
+
   pub wake-ask-shows : (n : Node) (state : State) (caller : Bool) → ErrorShows t (split n state caller (n .delay)) → Kept (wakeAskStep (split n state caller (n .delay)))
-  wake-ask-shows n State.Normal caller h = h
+  wake-ask-shows n State.Normal caller h = by-test Kept (n .error) (λ x. call-anew-shows (withWake (split n State.Normal caller (n .delay)))) (λ x. h)
   wake-ask-shows n State.Standby true h = h
   wake-ask-shows n State.Standby false h = λ e. absurd (h e)
   wake-ask-shows n State.Sleep caller h = λ e. absurd (h e)

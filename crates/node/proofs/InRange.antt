@@ -27,7 +27,7 @@ use Rattle.node.specs.declared.Reply.{Reply}
 use Rattle.node.specs.Changes.{asleep, powerOn, toStandby, withPermission, withWake, withHeard, withDelay, withStandby, nextCount, silent}
 use Rattle.node.specs.Range.{delayRight, standbyRight, inRange}
 use Rattle.node.specs.Ticks.{quietTick, awakeTick, normalBy, callerTick, listenerTick, standbyTick, tickBy, tickStep}
-use Rattle.node.specs.Waking.{pulseBy, wakeAskBy, wakeAskStep, permissionStep}
+use Rattle.node.specs.Waking.{pulseBy, callAnew, wakeAskBy, wakeAskStep, permissionStep}
 use Rattle.node.specs.Sending.{sleepMessageStep, sendStep, requestStep, sendAskStep}
 use Rattle.node.specs.Step.{eventRight, act, nodeStep}
 use Rattle.node.proofs.Cases.{any-row, in-normal, request-any, send-ask-any}
@@ -136,11 +136,14 @@ module _ (t : Times) where
     pulse-fits State.Standby n f = f
     pulse-fits State.Sleep n f = standby-fits n false f
 
+    call-anew-fits : (n : Node) → Fits t n → Fits t (callAnew n .node)
+    call-anew-fits n f = record { quiet = omega arith; delay = refl; standby = le-leb 0 (2 * t .recovery) (omega arith); counts = f .counts }
+
     pub wake-ask-fits : (n : Node) → Fits t n → Fits t (wakeAskStep n .node)
     wake-ask-fits n f = go (n .state) (n .caller) (withWake n) (record { quiet = f .quiet; delay = f .delay; standby = f .standby; counts = f .counts })
       where
         go : (s : State) (caller : Bool) (n : Node) → Fits t n → Fits t (wakeAskBy s caller n .node)
-        go State.Normal caller n f = f
+        go State.Normal caller n f = by-test (λ (r : Reply). Fits t (r .node)) (n .error) (λ e. call-anew-fits n f) (λ e. f)
         go State.Standby true n f = f
         go State.Standby false n f = standby-fits n true f
         go State.Sleep caller n f = standby-fits n true f

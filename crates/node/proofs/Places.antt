@@ -51,7 +51,7 @@ pulse-placed State.Standby n h = h
 pulse-placed State.Sleep n h = h
 
 wake-ask-placed : (state : State) (caller : Bool) (n : Node) → length (n .counts) ≡ reqids → Placed (wakeAskBy state caller n)
-wake-ask-placed State.Normal caller n h = h
+wake-ask-placed State.Normal caller n h = by-test Placed (n .error) (λ e. h) (λ e. h)
 wake-ask-placed State.Standby true n h = h
 wake-ask-placed State.Standby false n h = h
 wake-ask-placed State.Sleep caller n h = h

@@ -57,20 +57,25 @@ module _ (t : Times) where
     on-pulse n State.Standby o = o
     on-pulse n State.Sleep o = (o .0, omega arith)
 
+    -- with the clock on no error shows
+    unlit : (n : Node) → (1 ≤ k → n .error ≡ false) → n .error ≡ true → k ≤ t .sleep
+    unlit n f x = go k f
+      where
+        go : (k : ℕ) → (1 ≤ k → n .error ≡ false) → k ≤ t .sleep
+        go zero f = omega arith
+        go (suc k) f = no-way (sym (f (omega arith)) ∙ x)
+
+    -- so an ask to wake does not lead out of Normal ..
     pub on-wake-ask : (n : Node) (state : State) (caller : Bool) → ClockOn t k (split n state caller (n .delay)) → Kept (wakeAskStep (split n state caller (n .delay)))
-    on-wake-ask n State.Normal caller o = o
+    on-wake-ask n State.Normal caller o = by-test Kept (n .error) (λ x. (λ l. refl, let g = unlit n (o .0) x in omega arith)) (λ x. o)
     on-wake-ask n State.Standby true o = o
     on-wake-ask n State.Standby false o = o
     on-wake-ask n State.Sleep caller o = (o .0, omega arith)
 
-    -- no error shows, so a yes puts no node to sleep
+    -- .. and a yes puts no node to sleep
     pub on-permission : (permitted : Bool) (n : Node) → ClockOn t k n → ClockOn t k (permissionStep permitted n .node)
     on-permission permitted n o =
-        by-test Kept permitted (λ y. by-test Kept (n .error) (λ x. (λ l. refl, unslept k (o .0) x)) (λ x. o)) (λ y. o)
-      where
-        unslept : (k : ℕ) → (1 ≤ k → n .error ≡ false) → n .error ≡ true → k ≤ t .sleep
-        unslept zero f x = omega arith
-        unslept (suc k) f x = no-way (sym (f (omega arith)) ∙ x)
+        by-test Kept permitted (λ y. by-test Kept (n .error) (λ x. (λ l. refl, unlit n (o .0) x)) (λ x. o)) (λ y. o)
 
     pub on-long : (n : Node) → t .sleep + 2 ≤ k → delayRight (t .sleep) (n .delay) ≡ true → ClockOn t k n
         → (n .state ≡ State.Normal) × (n .error ≡ false) × (n .delay ≡ Delay.Off)

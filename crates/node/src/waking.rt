@@ -1,6 +1,7 @@
 // Waking and permission of a node.
 ghost use mathlib.Core.Path.{_≡_};
 ghost use Rattle.node.specs.Waking.{pulseStep, wakeAskStep, permissionStep};
+use crate::Delay;
 use crate::Node;
 use crate::Reply;
 use crate::calls;
@@ -24,6 +25,7 @@ impl Node {
     {
         let state = self.state;
         let caller = self.caller;
+        let error = self.error;
         self.wake = true;
         match state {
             State::Sleep => calls(self.to_standby(true)),
@@ -34,7 +36,20 @@ impl Node {
                     calls(self.to_standby(true))
                 }
             }
-            State::Normal => silent(self),
+            // the clock is gone (W-204)
+            State::Normal => {
+                if error {
+                    let cleared = Node {
+                        error: false,
+                        quiet: 0,
+                        delay: Delay::Off,
+                        ..self
+                    };
+                    calls(cleared.to_standby(true))
+                } else {
+                    silent(self)
+                }
+            }
         }
     }
 

@@ -26,6 +26,12 @@ calls-requires-2 c κs = search needs
 enum-told-3 : tie.Need-enum-told-3
 enum-told-3 c = search needs
 
+to-standby-requires-3 : tie.Need-to-standby-requires-3
+to-standby-requires-3 c κs = search needs
+
+calls-requires-3 : tie.Need-calls-requires-3
+calls-requires-3 c κs = search needs
+
 silent-requires-2 : tie.Need-silent-requires-2
 silent-requires-2 c κs = search needs
 
@@ -57,8 +63,18 @@ returns-3 c =
 returns-4 : tie.Need-returns-4
 returns-4 c =
     rw (
+      c .calls3 .ensures,
+      c .before .to-standby3 .ensures,
+      c .before .before .before .before .enum-told3 .given .1,
+      c .before .before .before .if2 .taken,
+    )
+
+returns-5 : tie.Need-returns-5
+returns-5 c =
+    rw (
       c .silent2 .ensures,
-      c .before .enum-told3 .given .1,
+      c .before .before .enum-told3 .given .1,
+      c .before .if2 .left,
     )
 
 pub wake-ask-spec : {M : Type 1} → statement M
@@ -73,8 +89,11 @@ wake-ask-spec =
     to-standby-requires-2
     calls-requires-2
     enum-told-3
+    to-standby-requires-3
+    calls-requires-3
     silent-requires-2
     returns
     returns-2
     returns-3
-    returns-4)
+    returns-4
+    returns-5)
