@@ -892,7 +892,13 @@ static void test_node_others(void) {
     node_does("wake in Standby, not caller", EDITS({N_STATE, 1}, {N_STANDBY, 3}), NODE_WAKE,
               EDITS({N_CALLER, 1}, {N_WAKE, 1}, {N_STANDBY, 0}), 1);
     node_does("wake in Standby, caller", EDITS({N_STATE, 1}, {N_CALLER, 1}, {N_STANDBY, 3}), NODE_WAKE, EDITS({N_WAKE, 1}), 0);
-    node_does("wake in Normal", NONE, NODE_WAKE, EDITS({N_WAKE, 1}), 0);
+    node_does("wake in Normal", EDITS({N_QUIET, 4}, {N_RUNS, 1}), NODE_WAKE, EDITS({N_WAKE, 1}), 0);
+    node_does("wake in Normal, error shows", EDITS({N_ERROR, 1}, {N_QUIET, 4}, {N_RUNS, 1}, {N_DELAY, 2}, {N_HEARD, 1}), NODE_WAKE,
+              EDITS({N_STATE, 1}, {N_ERROR, 0}, {N_WAKE, 1}, {N_CALLER, 1}, {N_QUIET, 0}, {N_RUNS, 0}, {N_DELAY, 0}), 1);
+    node_does("wake in Normal, error shows, permitted", EDITS({N_PERMISSION, 1}, {N_ERROR, 1}, {N_QUIET, 4}, {N_COUNTS + 16, 3}), NODE_WAKE,
+              EDITS({N_STATE, 1}, {N_ERROR, 0}, {N_WAKE, 1}, {N_CALLER, 1}, {N_QUIET, 0}), 1);
+    node_does("wake in Standby, caller that gave up", EDITS({N_STATE, 1}, {N_CALLER, 1}, {N_STANDBY, 10}, {N_ERROR, 1}), NODE_WAKE,
+              EDITS({N_WAKE, 1}), 0);
     node_does("permission yes", NONE, NODE_PERMIT(1), EDITS({N_PERMISSION, 1}), 0);
     node_does("permission no, error shows", EDITS({N_PERMISSION, 1}, {N_ERROR, 1}), NODE_PERMIT(0), EDITS({N_PERMISSION, 0}), 0);
     node_does("permission yes, error shows", EDITS({N_ERROR, 1}, {N_QUIET, 4}, {N_WAKE, 1}), NODE_PERMIT(1),

@@ -92,7 +92,7 @@ tick         | S0 0 ZZ 0
 """)
 
 # 1.5: the same, not permitted: the error, until it is permitted
-script("u", "ctc-1.5", """
+GAVE_UP = """
 wake 0       | S0 0 SS 0
 tick         | S0 0 SS 0
 tick         | S0 0 SS 0
@@ -103,7 +103,8 @@ tick         | S0 0 SS 0
 tick         | S0 0 SS 0
 tick         | S0 0 SZ 0
 tick         | S0 0 SZ 0
-tick         | S0 0 S!Z 0
+tick         | S0 0 S!Z 0"""
+script("u", "ctc-1.5", GAVE_UP + """
 tick         | S0 0 S!Z 0
 tick         | S0 0 S!Z 0
 permit 0 1   | S0 0 ZZ 0
@@ -137,18 +138,7 @@ wake 0       | S0 0 S 0
 """)
 
 # 3.2 and 3.5: one second pulse at R; another node sleeps P after each
-script("u", "ctc-3.2", """
-wake 0       | S0 0 SS 0
-tick         | S0 0 SS 0
-tick         | S0 0 SS 0
-tick         | S0 0 SZ 0
-tick         | S0 0 SZ 0
-tick         | S0 0 SS 0
-tick         | S0 0 SS 0
-tick         | S0 0 SS 0
-tick         | S0 0 SZ 0
-tick         | S0 0 SZ 0
-tick         | S0 0 S!Z 0
+script("u", "ctc-3.2", GAVE_UP + """
 tick         | S0 0 S!Z 0
 tick         | S0 0 S!Z 0
 tick         | S0 0 S!Z 0
@@ -337,7 +327,7 @@ req 16 ok    | N0 1 N 0
 """)
 
 # the same, not permitted: N! from the E-th tick on
-script("l", "missed-sleep-message", """
+MISSED = """
 wake 0       | S0 0 S 0
 tick         | N0 1 N 0
 permit 0 1   | N0 1 N 0
@@ -356,14 +346,49 @@ sent ok      | N3 1 Z 0
 permit 0 0   | N3 1 Z 0
 tick         | N3 1 S 0
 tick         | N3 1 N 0
-tick         | Z0 0 N 0
+tick         | Z0 0 N 0"""
+script("l", "missed-sleep-message", MISSED + """
 tick         | Z0 0 N 0
 tick         | Z0 0 N 0
 tick         | Z0 0 N! 0
 tick         | Z0 0 N! 0
-wake 0       | Z0 0 N! 0
 permit 0 1   | Z0 0 Z 0
 """)
+
+# W-204: its switch calls nobody before the E-th tick and the master from it on; its first answer then has the wake bit
+script("l", "switch", MISSED + """
+wake 0       | Z0 0 N 0
+tick         | Z0 0 N 0
+tick         | Z0 0 N 0
+tick         | Z0 0 N! 0
+tick         | Z0 0 N! 0
+wake 0       | S0 0 S 0
+wake 0       | S0 0 S 0
+tick         | N0 1 N 0
+permit 0 1   | N0 1 N 0
+req 16 ok    | N0 1 N 0
+sleep        | N0 1 N 20
+req 16 ok    | N0 1 N 0
+sleep        | N1 1 N 0
+""")
+
+# What W-204 leaves open: a caller that gave up at 2R, not permitted, shows its error in Standby and cannot call again (node 1 would hear
+# it) until it is permitted ..
+script("u", "gave-up", GAVE_UP + """
+wake 0       | S0 0 S!Z 0
+tick         | S0 0 S!Z 0
+wake 0       | S0 0 S!Z 0
+permit 0 1   | S0 0 ZZ 0
+wake 0       | S0 0 SS 0
+""")
+
+# .. or the clock comes
+script("u", "gave-up-until-clock", GAVE_UP + """
+wake 0       | S0 0 S!Z 0
+""" + "tick | S0 0 S!Z 0\n" * 9 + """
+tick         | N0 1 NS 0
+tick         | N0 1 NN 0
+""".lstrip())
 
 # 10.2 and 10.4: the event-triggered node sends unasked, the polled one after a request
 script("f", "ctc-10", """

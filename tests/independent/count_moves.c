@@ -84,8 +84,9 @@ static uint16_t callers_of(const deed *done) {
     for (uint8_t number = 0; number < done->plan->node_count; number++) {
         const reference_node *node = &done->before->nodes[number];
         bool in_standby = node->state == REFERENCE_STANDBY;
+        bool shows = node->state == REFERENCE_NORMAL && node->error;
         bool asks = done->move->act == REFERENCE_ACT_NODE_WAKE && done->move->node == number &&
-                    (node->state == REFERENCE_SLEEP || (in_standby && !node->caller));
+                    (node->state == REFERENCE_SLEEP || (in_standby && !node->caller) || shows);
         /* A pulse takes the master no further than Standby, so the nodes ticked without clock exactly if it is not Normal now. */
         bool recovers = done->move->act == REFERENCE_ACT_TICK && !reference_clock_is_on(done->after) && in_standby && node->caller &&
                         node->standby_count + 1 == done->plan->times.recovery;

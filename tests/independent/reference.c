@@ -1,4 +1,4 @@
-/* Document 01 in plain C: the reader and writer of release sets, the master machine and the node machine.
+/* Document 01 in plain C, mended by W-204: the reader and writer of release sets, the master machine and the node machine.
  *
  * Compile: gcc -std=c11 -O2 -Wall -Wextra -Werror -pedantic -c tests/independent/reference.c */
 #include "reference.h"
@@ -730,11 +730,22 @@ static uint32_t node_pulse(reference_node *node) {
     return 0;
 }
 
+static void call_master(reference_node *node, reference_node_reply *reply) {
+    enter_standby(node, 1);
+    reply->command = REFERENCE_SEND_PULSE;
+}
+
+/* W-204: "in Normal while the error shows" too, "count and quiet count 0, error and sleep delay off". */
 static uint32_t node_wake(reference_node *node, reference_node_reply *reply) {
     node->wake = 1;
     if (node->state == REFERENCE_SLEEP || (node->state == REFERENCE_STANDBY && !node->caller)) {
-        enter_standby(node, 1);
-        reply->command = REFERENCE_SEND_PULSE;
+        call_master(node, reply);
+    } else if (node->state == REFERENCE_NORMAL && node->error) {
+        node->error = 0;
+        node->quiet_count = 0;
+        node->delay_runs = 0;
+        node->delay = 0;
+        call_master(node, reply);
     }
     return 0;
 }

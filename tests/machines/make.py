@@ -277,6 +277,19 @@ node(ASLEEP, OWN_WAKE, "own ask in Sleep: caller, pulse", "pulse", state="Standb
 node(dict(CALLED, standby=3), OWN_WAKE, "own ask in Standby, not caller: caller, count 0, pulse", "pulse", caller=1, wake=1, standby=0)
 node(dict(CALLER, wake=0, standby=3), OWN_WAKE, "own ask as caller: wake bit only", wake=1)
 node(dict(AWAKE, delay=1), OWN_WAKE, "own ask in Normal: wake bit only", wake=1)
+node(dict(ASLEEP, **dict(FULL, wake=0)), OWN_WAKE, "own ask in Sleep: the rest stays", "pulse", state="Standby", caller=1, wake=1)
+node(dict(CALLED, error=1, quiet=2, standby=3), OWN_WAKE, "own ask in Standby, not caller: the rest stays", "pulse", caller=1, wake=1, standby=0)
+
+# W-204: own ask to wake in Normal while the error shows
+CALLS_ANEW = dict(state="Standby", caller=1, wake=1, error=0, quiet=0, delay=None)
+node(dict(AWAKE, error=1, quiet=4), OWN_WAKE, "own ask while the error shows: caller, quiet 0, error off, pulse", "pulse", **CALLS_ANEW)
+node(dict(AWAKE, permits=1, error=1, quiet=4), OWN_WAKE, "the same permitted", "pulse", **CALLS_ANEW)
+node(dict(AWAKE, **dict(FULL, wake=0)), OWN_WAKE, "sleep delay off, heard and sequence counts stay", "pulse", **CALLS_ANEW)
+node(dict(AWAKE, permits=1, **FULL), OWN_WAKE, "the same permitted, the wake bit 1 before", "pulse", **CALLS_ANEW)
+node(dict(AWAKE, error=1, quiet=1), OWN_WAKE, "E 1", "pulse", plan=1, **CALLS_ANEW)
+node(dict(AWAKE, quiet=4, heard=1), OWN_WAKE, "own ask at E without the error: wake bit only", wake=1)
+node(dict(AWAKE, permits=1, quiet=3), OWN_WAKE, "own ask before E, permitted: wake bit only", wake=1)
+node(dict(CALLER, wake=0, error=1, standby=10), OWN_WAKE, "own ask of a caller that gave up: wake bit only", wake=1)
 
 # Permission
 node(ASLEEP, permit(1), "yes in Sleep", permits=1)

@@ -25,8 +25,26 @@ def write(crate, name, data):
 # Lines: set T
 
 request, permits = move(5, value=16), move(3, value=1)
-off = move(0, master=0)
+off, unheard = move(0, master=0), move(8, value=1, reached=NONE)
 unread = move(0, node=255, value=255, result=65535, length=65535, count=255)
+# the sleep message is lost to the node, whose user is back at work; the clock stops and the quiet limit passes
+missed = [
+    (SLEEP_ASK, "N1 1 N 0"),
+    (unheard, "N3 1 N 0"),
+    (move(3, value=0), "N3 1 N 0"),
+    (TICK, "N3 1 N 0"),
+    (TICK, "Z0 0 N 0"),
+    (TICK, "Z0 0 N 0"),
+    (TICK, "Z0 0 N 0"),
+    (TICK, "Z0 0 N! 0"),
+]
+# the first answer has the wake bit, so that its permission is not held
+answers = [
+    (permits, "N0 1 N 0"),
+    (request, "N0 1 N 0"),
+    (SLEEP_ASK, "N0 1 N 20"),
+    (request, "N0 1 N 0"),
+]
 lines = [
     # document 01's drill, nothing lost
     (move(1), "S0 0 S 0"),
@@ -57,7 +75,7 @@ lines = [
     (SLEEP_ASK, "N1 1 N 0"),
     # a damaged answer calls back, whatever its bits; the sleep message reaches nobody
     (move(5, value=16, fate=DAMAGED, result=5, length=2, count=3, permission=1), "N2 1 N 13"),
-    (move(8, value=1, reached=NONE), "N0 1 N 0"),
+    (unheard, "N0 1 N 0"),
     # moves that a bus does not make, and others that are refused
     (move(5, value=16, fate=DAMAGED, result=0), "N0 1 N 15"),
     (move(5, value=16, fate=DAMAGED, result=5, count=4), "N0 1 N 15"),
@@ -75,8 +93,26 @@ lines = [
     (move(0, permission=2), BAD),
     (move(0, wake=255), BAD),
     (b"\xff" * 16, BAD),
-    # a tick whose other bytes may be anything, and a record that ends early
+    # a tick whose other bytes may be anything
     (unread, "N0 1 N 0"),
+    # W-204: the switch is pressed, the master comes up
+    (request, "N0 1 N 0"),
+    *missed,
+    (move(1), "S0 0 S 0"),
+    (TICK, "N0 1 N 0"),
+    *answers,
+    # the same with the first pulse lost: the second, at the R-th tick, is needed
+    *missed,
+    (move(1, master=0), "Z0 0 S 0"),
+    (TICK, "Z0 0 S 0"),
+    (TICK, "Z0 0 S 0"),
+    (TICK, "Z0 0 S 0"),
+    (TICK, "Z0 0 S 0"),
+    (TICK, "S0 0 S 0"),
+    (TICK, "N0 1 N 0"),
+    *answers,
+    (SLEEP_ASK, "N1 1 N 0"),
+    # a record that ends early
     (TICK[:7], BAD),
 ]
 write("replay", "data/plan.set", plan_set(7, [10, 2, 3, 4, 5, 6, 1], [(0x41, 1, POLLED)], [(16, 0, 2, 1)]))
