@@ -8,7 +8,7 @@ use crate::Bus;
 use crate::Callers;
 use crate::Message;
 use crate::World;
-use crate::ticks::is_normal;
+use machine::is_normal;
 use node::Command;
 use node::Node;
 use plan::Lookup;

@@ -1,7 +1,6 @@
 // A tick of all machines.
 ghost use mathlib.Core.Path.{_≡_};
 ghost use Prim.Native.Nat.{_≤_};
-ghost use Rattle.machine.specs.State.{isNormal};
 ghost use Rattle.master.specs.Clock.{isOff};
 ghost use Rattle.plan.specs.Limits.{maxNodes};
 ghost use Rattle.bus.specs.Resting.{rests};
@@ -15,21 +14,12 @@ use crate::World;
 use crate::pulses::any_called;
 use crate::pulses::with_caller;
 use machine::State;
+use machine::is_normal;
 use master::Command;
 use node::Delay;
 use node::Node;
 use plan::Plan;
 use plan::Times;
-
-pub(crate) fn is_normal(state: State) -> bool
-    ensures { λ r. ⌜ r ≡ isNormal state ⌝ }
-{
-    match state {
-        State::Normal => true,
-        State::Standby => false,
-        State::Sleep => false,
-    }
-}
 
 fn is_off(command: Command) -> bool
     ensures { λ r. ⌜ r ≡ isOff command ⌝ }

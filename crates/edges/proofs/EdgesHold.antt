@@ -11,11 +11,12 @@ use Rattle.reader.specs.Layout.{nodeOf, nodesOf, rowcountOf, rowPlace, rowOf, r
 use Rattle.reader.specs.Rules.{lengthRight, checkRight, checksRight, blockType, typeRight, typesRight, revisionSame, revisionsSame, countsRight, named, fillerAt, fillerRight}
 use Rattle.reader.specs.Read.{setRefusal, readSet}
 use Rattle.writer.specs.Write.{withCheck}
-use Rattle.master.specs.Range.{holdsRight, inRange}
-use Rattle.master.specs.Ticks.{allOlder}
+use Rattle.master.specs.Changes.{allWoken}
+use Rattle.master.specs.Range.{holdsRight, causesRight, inRange}
+use Rattle.master.specs.Ticks.{allOlder, allAgedOut}
 use Rattle.master.specs.Sleeping.{notHeld}
 use Rattle.edges.specs.Edges.{AllHold, edges}
 
 pub edges-hold : AllHold edges
-unfolding readSet setRefusal zeroPlan planOf timesFrom entryFrom nodeOf nodesOf rowcountOf rowPlace rowFrom rowOf rowsOf lengthRight checkRight checksRight blockType typeRight typesRight revisionSame revisionsSame countsRight named fillerAt fillerRight planRefusal timesRight entryRight differs nodeRight nodesRight reqidBefore rowAfter rowRight rowsRight isFrom publishes allPublish hasReqid rowAmong findRow withCheck blockCheck countsBelow inRange holdsRight allOlder notHeld sumTo allTo anyTo firstTo tab
+unfolding readSet setRefusal zeroPlan planOf timesFrom entryFrom nodeOf nodesOf rowcountOf rowPlace rowFrom rowOf rowsOf lengthRight checkRight checksRight blockType typeRight typesRight revisionSame revisionsSame countsRight named fillerAt fillerRight planRefusal timesRight entryRight differs nodeRight nodesRight reqidBefore rowAfter rowRight rowsRight isFrom publishes allPublish hasReqid rowAmong findRow withCheck blockCheck countsBelow inRange holdsRight causesRight allWoken allOlder allAgedOut notHeld sumTo allTo anyTo firstTo tab
 edges-hold = (refl, (refl, (refl, (refl, (refl, (refl, (refl, (refl, (refl, (refl, (refl, tt)))))))))))

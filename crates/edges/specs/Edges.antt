@@ -15,7 +15,7 @@ use Rattle.master.specs.declared.Command.{Command}
 use Rattle.master.specs.declared.Master.{Master}
 use Rattle.master.specs.declared.Event.{Event}
 use Rattle.master.specs.declared.Reply.{Reply}
-use Rattle.master.specs.Changes.{noHold, noCounts, commands}
+use Rattle.master.specs.Changes.{noHold, causeNew, causeRefused, causeAged, causeWake, noCounts, commands}
 use Rattle.master.specs.Step.{masterStep}
 use Rattle.edges.specs.SetT.{setT, planT, planWith}
 
@@ -48,14 +48,15 @@ changed offset byte = withCheck (withCheck (set setT offset byte) 0) 1
 abbrev pub accepted : Plan → ReadAnswer
 accepted plan = record { refusal = 0; plan = plan }
 
--- a permitting master in Normal, with node 0's permission and the last count of ReqId 16, after so many ticks
-abbrev pub awake : Phase → Hold → ℕ → ℕ → Master
-awake phase hold last ticks =
+-- a permitting master in Normal, with node 0's permission and cause and the last count of ReqId 16, after so many ticks
+abbrev pub awake : Phase → Hold → ℕ → ℕ → ℕ → Master
+awake phase hold cause last ticks =
     record {
       state = State.Normal;
       phase = phase;
       permission = true;
       holds = hold ∷ replicate 15 noHold;
+      causes = cause ∷ replicate 15 causeNew;
       counts = set noCounts 16 last;
       delay = 0;
       ticks = ticks;
@@ -85,16 +86,16 @@ edges =
     -- (5) S 1, D 2: 5
     ∷ Reads (changed 11 1) (refused 5)
     -- (6) W 10, age 10: sleep ask goes
-    ∷ Steps (awake Phase.Open (held 10) 4 0) Event.SleepAsk [] (commands Command.SleepMessage (awake Phase.Sending (held 10) 4 0))
+    ∷ Steps (awake Phase.Open (held 10) causeNew 4 0) Event.SleepAsk [] (commands Command.SleepMessage (awake Phase.Sending (held 10) causeNew 4 0))
     -- (7) the same after one more tick: 20
-    ∷ Steps (awake Phase.Open (held 10) 4 0) Event.Tick (Event.SleepAsk ∷ [])
-    (record { master = awake Phase.Open noHold 4 1; command = Command.Nothing; refusal = 20; node = 0; lost = 0 })
+    ∷ Steps (awake Phase.Open (held 10) causeNew 4 0) Event.Tick (Event.SleepAsk ∷ [])
+    (record { master = awake Phase.Open noHold causeAged 4 1; command = Command.Nothing; refusal = 20; node = 0; lost = 0 })
     -- (8) last 3, count 0: lost 0
-    ∷ Steps (awake Phase.Open noHold 3 0) (answer 0 true false) [] (lost 0 (awake Phase.Open (held 0) 0 0))
+    ∷ Steps (awake Phase.Open noHold causeNew 3 0) (answer 0 true false) [] (lost 0 (awake Phase.Open (held 0) causeNew 0 0))
     -- (9) last 1, count 1: lost 3
-    ∷ Steps (awake Phase.Open noHold 1 0) (answer 1 true false) [] (lost 3 (awake Phase.Open (held 0) 1 0))
+    ∷ Steps (awake Phase.Open noHold causeNew 1 0) (answer 1 true false) [] (lost 3 (awake Phase.Open (held 0) causeNew 1 0))
     -- (10) wake and permission bits both 1: nothing held
-    ∷ Steps (awake Phase.Open (held 5) 4 0) (answer 0 true true) [] (lost 0 (awake Phase.Open noHold 0 0))
+    ∷ Steps (awake Phase.Open (held 5) causeNew 4 0) (answer 0 true true) [] (lost 0 (awake Phase.Open noHold causeWake 0 0))
     -- (11) refusal in Closing: Open, clock on
-    ∷ Steps (awake Phase.Closing (held 5) 4 0) (answer 0 false false) [] (lost 0 (awake Phase.Open noHold 0 0))
+    ∷ Steps (awake Phase.Closing (held 5) causeNew 4 0) (answer 0 false false) [] (lost 0 (awake Phase.Open noHold causeRefused 0 0))
     ∷ []

@@ -4,6 +4,7 @@ ghost use Prim.Native.Nat.{_≤_};
 ghost use lib.Dec.{ltb, eqb};
 ghost use lib.ListN.{getD, set};
 ghost use Rattle.machine.specs.Counts.{countsBelow};
+ghost use Rattle.machine.specs.State.{isNormal};
 use plan::Row;
 
 mod bytes;
@@ -17,6 +18,16 @@ pub enum State {
     Normal,
     Standby,
     Sleep,
+}
+
+pub fn is_normal(state: State) -> bool
+    ensures { λ r. ⌜ r ≡ isNormal state ⌝ }
+{
+    match state {
+        State::Normal => true,
+        State::Standby => false,
+        State::Sleep => false,
+    }
 }
 
 // The count of a ReqId, 0 past the table.

@@ -19,7 +19,7 @@ use Rattle.master.specs.declared.Answer.{Answer}
 use Rattle.master.specs.declared.Master.{Master}
 use Rattle.master.specs.declared.Event.{Event}
 use Rattle.master.specs.declared.Reply.{Reply}
-use Rattle.master.specs.Changes.{withPermission, letGo, letAllGo, callBackBy, callBack}
+use Rattle.master.specs.Changes.{withPermission, letGo, withCause, dropAll, callBackBy, callBack}
 use Rattle.master.specs.Clock.{clockOn, switched, isOff, closing}
 use Rattle.master.specs.Range.{inRange}
 use Rattle.master.specs.Ticks.{aged, tickBy}
@@ -40,8 +40,8 @@ call-back-state m = go (m .phase)
 pub judged-state : (k : ℕ) (permission wake : Bool) (m : Master) → judged k permission wake m .state ≡ m .state
 judged-state k permission wake m =
     by-test (λ (x : Master). x .state ≡ m .state) wake
-    (λ w. call-back-state (letAllGo m))
-    (λ w. by-test (λ (x : Master). x .state ≡ m .state) permission (λ y. refl) (λ y. call-back-state (letGo k m)))
+    (λ w. call-back-state (withCause _ k (dropAll m)))
+    (λ w. by-test (λ (x : Master). x .state ≡ m .state) permission (λ y. refl) (λ y. call-back-state (letGo k (withCause _ k m))))
 
 -- a reply to a step of m
 record Clocked (m : Master) (r : Reply) : Type 0 where
@@ -71,7 +71,7 @@ module _ (m : Master) where
   wake-up-clocked = go (m .state) refl
     where
       go : (s : State) → m .state ≡ s → Clocked m (wakeUpBy s m)
-      go State.Normal e = still _ refl refl (call-back-state (letAllGo m))
+      go State.Normal e = still _ refl refl (call-back-state (dropAll m))
       go State.Standby e = still _ refl refl refl
       go State.Sleep e = record { follows = ap isNormal e; stops = λ h. no-way h }
 
@@ -107,8 +107,8 @@ module _ (m : Master) where
       (λ w. by-test (Clocked m) (isCounted row)
       (λ c. still _ refl refl (judged-state (row .publisher) (a .permission) (a .wake) (counted (row .reqid) (a .count) m)))
       (λ c. still _ refl refl (judged-state (row .publisher) (a .permission) (a .wake) m)))
-      (λ w. still _ refl refl (call-back-state (letGo (row .publisher) m))))
-      (λ z. still _ refl refl (call-back-state (letGo (row .publisher) m))))
+      (λ w. still _ refl refl (call-back-state (letGo (row .publisher) (withCause _ (row .publisher) m)))))
+      (λ z. still _ refl refl (call-back-state (letGo (row .publisher) (withCause _ (row .publisher) m)))))
 
   answer-clocked : (s : State) (row : Lookup) (a : Answer) → Clocked m (answerBy s row a m)
   answer-clocked State.Normal Lookup.Missing a = still _ refl refl refl

@@ -1,19 +1,20 @@
 -- From a state in range, under an accepted plan, every step gives a state in range.
-use Prim.Native.Nat.{ℕ, _+_, _-_, _<_}
-use mathlib.Core.Path.{_≡_, refl, ap, _∙_}
-use mathlib.Core.Bool.{Bool, true, false, _&&_}
+use Prim.Native.Nat.{ℕ, _+_, _-_, _<_, _≤_}
+use mathlib.Core.Path.{_≡_, refl, ap, ap₂, _∙_}
+use mathlib.Core.Bool.{Bool, true, false, not, _&&_}
 use mathlib.Core.List.{List}
 use lib.Dec.{leb, ltb, eqb}
-use lib.ListN.{getD, set, length, getD-replicate}
+use lib.ListN.{getD, set, length, getD-replicate, List·getD-eq-default}
 use lib.Seq.{getD-set-same, getD-set-other, set-out}
 use native.Mathlib.Omega.{arith}
 use native.Mathlib.Decide.{decLt, ℕ-discrete}
-use borrow.Author.Tests.{lt-ltb, le-leb, ltb-true}
+use borrow.Author.Tests.{lt-ltb, lt-leb, le-ltb, le-leb, ltb-true}
 use Rattle.folds.specs.Fold.{allTo, firstTo}
 use Rattle.folds.proofs.AllAny.{and-l, and-r, all-at, all-intro}
 use Rattle.folds.proofs.Choices.{by-test}
 use Rattle.folds.proofs.Tables.{getD-tab}
 use Rattle.machine.specs.declared.State.{State}
+use Rattle.machine.specs.State.{isNormal}
 use Rattle.machine.specs.Counts.{countsBelow}
 use Rattle.machine.proofs.CountTables.{counts-set}
 use Rattle.plan.specs.declared.Row.{Row}
@@ -31,12 +32,12 @@ use Rattle.master.specs.declared.Answer.{Answer}
 use Rattle.master.specs.declared.Master.{Master}
 use Rattle.master.specs.declared.Event.{Event}
 use Rattle.master.specs.declared.Reply.{Reply}
-use Rattle.master.specs.Changes.{noHold, noHolds, noCounts, powerOn, inPhase, withPermission, withHolds, letGo, letAllGo, hold, callBackBy, callBack}
-use Rattle.master.specs.Range.{isOpen, phaseRight, delayRight, holdRight, holdRightAt, holdsRight, inRange}
-use Rattle.master.specs.Ticks.{older, olderAt, allOlder, aged, tickBy}
+use Rattle.master.specs.Changes.{noHold, noHolds, noCauses, noCounts, powerOn, inPhase, withPermission, letGo, letAllGo, hold, withCause, woken, wokenAt, allWoken, dropAll, callBackBy, callBack}
+use Rattle.master.specs.Range.{isOpen, phaseRight, delayRight, holdRight, holdRightAt, holdsRight, causeRight, causeRightAt, causesRight, inRange}
+use Rattle.master.specs.Ticks.{older, olderAt, allOlder, agedOut, agedOutAt, allAgedOut, aged, tickBy}
 use Rattle.master.specs.Waking.{wakeUpBy, permissionStep}
 use Rattle.master.specs.Sleeping.{notHeld, sleepAskBy, sendResultBy}
-use Rattle.master.specs.Answers.{damaged, judged, counted, wholeStep, rowStep, answerBy}
+use Rattle.master.specs.Answers.{judged, counted, wholeStep, rowStep, answerBy}
 use Rattle.master.specs.Step.{eventRight, act, masterStep}
 
 -- what a state in range keeps
@@ -45,6 +46,7 @@ pub record Fits (nodecount : ℕ) (t : Times) (m : Master) : Type 0 where
   pub delay : delayRight t (m .state) (m .phase) (m .delay) ≡ true
   pub counts : countsBelow 5 (m .counts) ≡ true
   pub holds : holdsRight nodecount (t .window) (m .holds) ≡ true
+  pub causes : causesRight (isNormal (m .state)) nodecount (m .holds) (m .causes) ≡ true
 
 pub fits : (nodecount : ℕ) (t : Times) (m : Master) → inRange nodecount t m ≡ true → Fits nodecount t m
 unfolding inRange
@@ -53,13 +55,15 @@ fits nodecount t m e =
     let d = delayRight t (m .state) (m .phase) (m .delay) in
     let c = countsBelow 5 (m .counts) in
     let h = holdsRight nodecount (t .window) (m .holds) in
-    let pdc = and-l (p && d && c) h e in
+    let w = causesRight (isNormal (m .state)) nodecount (m .holds) (m .causes) in
+    let pdc = and-l (p && d && c) (h && w) e in
+    let hw = and-r (p && d && c) (h && w) e in
     let pd = and-l (p && d) c pdc in
-    record { phase = and-l p d pd; delay = and-r p d pd; counts = and-r (p && d) c pdc; holds = and-r (p && d && c) h e }
+    record { phase = and-l p d pd; delay = and-r p d pd; counts = and-r (p && d) c pdc; holds = and-l h w hw; causes = and-r h w hw }
 
 pub in-range : (nodecount : ℕ) (t : Times) (m : Master) → Fits nodecount t m → inRange nodecount t m ≡ true
 unfolding inRange
-in-range nodecount t m f = rw (f .phase, f .delay, f .counts, f .holds)
+in-range nodecount t m f = rw (f .phase, f .delay, f .counts, f .holds, f .causes)
 
 no-counts : countsBelow 5 noCounts ≡ true
 unfolding countsBelow allTo
@@ -100,6 +104,89 @@ module _ (nodecount window : ℕ) where
       all-intro (holdRightAt nodecount window (allOlder window holds)) 16
       (λ k l. ap (holdRight nodecount window k) (getD-tab 16 (olderAt window holds) k noHold l) ∙ older-right k (getD holds k noHold) (hold-at holds k e l))
 
+  -- 0 is right at each place
+  zero-right : (normal : Bool) (k : ℕ) (held : Bool) → causeRight normal nodecount k held 0 ≡ true
+  zero-right normal k held = by-test (λ (x : Bool). x ≡ true) (normal && ltb k nodecount && not held) (λ y. refl) (λ y. refl)
+
+  cause-at : (normal : Bool) (holds : List Hold) (causes : List ℕ) (k : ℕ) → causesRight normal nodecount holds causes ≡ true → k < 16
+      → causeRight normal nodecount k (getD holds k noHold .held) (getD causes k 0) ≡ true
+  unfolding causesRight
+  cause-at normal holds causes k e l = all-at (causeRightAt normal nodecount holds causes) 16 e k l
+
+  no-causes-right : (normal : Bool) (holds : List Hold) → causesRight normal nodecount holds noCauses ≡ true
+  unfolding causesRight
+  no-causes-right normal holds =
+      all-intro (causeRightAt normal nodecount holds noCauses) 16
+      (λ k l. ap (causeRight normal nodecount k (getD holds k noHold .held)) (getD-replicate 16 k 0 0 l) ∙ zero-right normal k (getD holds k noHold .held))
+
+  -- node i is held with cause 0, or not held
+  set-both-right : (normal : Bool) (holds : List Hold) (causes : List ℕ) (i : ℕ) (h : Hold) (c : ℕ) → causesRight normal nodecount holds causes ≡ true
+      → causeRight normal nodecount i (h .held) c ≡ true → causeRight normal nodecount i false c ≡ true
+      → causesRight normal nodecount (set holds i h) (set causes i c) ≡ true
+  unfolding causesRight
+  set-both-right normal holds causes i h c e r s =
+      all-intro (causeRightAt normal nodecount (set holds i h) (set causes i c)) 16 (λ k l. at k l (ℕ-discrete k i) (decLt i (length holds)) (decLt i (length causes)))
+    where
+      at : (k : ℕ) → k < 16 → Dec (k ≡ i) → Dec (i < length holds) → Dec (i < length causes)
+          → causeRight normal nodecount k (getD (set holds i h) k noHold .held) (getD (set causes i c) k 0) ≡ true
+      at k l (no n) p q = rw (getD-set-other holds i k h noHold n, getD-set-other causes i k c 0 n) (cause-at normal holds causes k e l)
+      at k l (yes z) (yes p) (yes q) = rw (z, getD-set-same holds i h noHold p, getD-set-same causes i c 0 q) r
+      at k l (yes z) (no p) (yes q) =
+          let past : length holds ≤ i = omega arith in
+          rw (z, set-out holds i h past, List·getD-eq-default holds noHold past, getD-set-same causes i c 0 q) s
+      at k l (yes z) p (no q) =
+          let past : length causes ≤ i = omega arith in
+          rw (z, set-out causes i c past, List·getD-eq-default causes 0 past) (zero-right normal i (getD (set holds i h) i noHold .held))
+
+  -- nothing is held, node i has another cause
+  set-cause-right : (normal : Bool) (causes : List ℕ) (i c : ℕ) → causesRight normal nodecount noHolds causes ≡ true → causeRight normal nodecount i false c ≡ true
+      → causesRight normal nodecount noHolds (set causes i c) ≡ true
+  unfolding causesRight
+  set-cause-right normal causes i c e r =
+      all-intro (causeRightAt normal nodecount noHolds (set causes i c)) 16 (λ k l. at k l (ℕ-discrete k i) (decLt i (length causes)))
+    where
+      at : (k : ℕ) → k < 16 → Dec (k ≡ i) → Dec (i < length causes) → causeRight normal nodecount k (getD noHolds k noHold .held) (getD (set causes i c) k 0) ≡ true
+      at k l (no n) q = rw (getD-set-other causes i k c 0 n) (cause-at normal noHolds causes k e l)
+      at k l (yes z) (yes q) = rw (getD-replicate 16 k noHold noHold l, z, getD-set-same causes i c 0 q) r
+      at k l (yes z) (no q) = rw (set-out causes i c (omega arith)) (cause-at normal noHolds causes k e l)
+
+  -- a wake-up in Normal
+  woken-right : (holds : List Hold) (causes : List ℕ) → holdsRight nodecount window holds ≡ true → causesRight true nodecount holds causes ≡ true
+      → causesRight true nodecount noHolds (allWoken holds causes) ≡ true
+  unfolding causesRight allWoken
+  woken-right holds causes hs cs =
+      all-intro (causeRightAt true nodecount noHolds (allWoken holds causes)) 16
+      (λ k l. ap₂ (causeRight true nodecount k) (ap (λ (h : Hold). h .held) (getD-replicate 16 k noHold noHold l)) (getD-tab 16 (wokenAt holds causes) k 0 l)
+      ∙ at k (getD holds k noHold) (getD causes k 0) (hold-at holds k hs l) (cause-at true holds causes k cs l))
+    where
+      at : (k : ℕ) (h : Hold) (c : ℕ) → holdRight nodecount window k h ≡ true → causeRight true nodecount k (h .held) c ≡ true → causeRight true nodecount k false (woken h c) ≡ true
+      at k h c r s =
+          by-test (λ (x : ℕ). causeRight true nodecount k false x ≡ true) (h .held)
+          (λ y. let a : (ltb k nodecount && leb (h .age) window) ≡ true = rw y at r in rw (and-l (ltb k nodecount) (leb (h .age) window) a))
+          (λ y. rw y at s)
+
+  -- a tick
+  aged-out-right : (normal : Bool) (holds : List Hold) (causes : List ℕ) → holdsRight nodecount window holds ≡ true → causesRight normal nodecount holds causes ≡ true
+      → causesRight normal nodecount (allOlder window holds) (allAgedOut normal window holds causes) ≡ true
+  unfolding causesRight allOlder allAgedOut
+  aged-out-right normal holds causes hs cs =
+      all-intro (causeRightAt normal nodecount (allOlder window holds) (allAgedOut normal window holds causes)) 16
+      (λ k l. ap₂ (λ (h : Hold) c. causeRight normal nodecount k (h .held) c) (getD-tab 16 (olderAt window holds) k noHold l) (getD-tab 16 (agedOutAt normal window holds causes) k 0 l)
+      ∙ at normal k (getD holds k noHold) (getD causes k 0) (hold-at holds k hs l) (cause-at normal holds causes k cs l))
+    where
+      at : (normal : Bool) (k : ℕ) (h : Hold) (c : ℕ) → holdRight nodecount window k h ≡ true → causeRight normal nodecount k (h .held) c ≡ true
+          → causeRight normal nodecount k (older window h .held) (agedOut normal window h c) ≡ true
+      at false k h c r s = s
+      at true k h c r s = go (h .held) refl (decLt (h .age) window)
+        where
+          go : (b : Bool) → h .held ≡ b → Dec (h .age < window) → causeRight true nodecount k (older window h .held) (agedOut true window h c) ≡ true
+          go true e (yes l) = rw (e, lt-ltb (h .age) window l, lt-leb window (h .age) l) (rw e at s)
+          go true e (no l) =
+              let a : (ltb k nodecount && leb (h .age) window) ≡ true = rw e at r in
+              let w : window ≤ h .age = omega arith in
+              rw (e, le-ltb (h .age) window w, le-leb window (h .age) w, and-l (ltb k nodecount) (leb (h .age) window) a)
+          go false e d = rw e (rw e at s)
+
 -- letting all go leaves nothing held
 all-gone : (m : Master) → letAllGo m .holds ≡ noHolds
 all-gone m = refl
@@ -108,24 +195,57 @@ module _ (nodecount : ℕ) (t : Times) (a : TimesFit t) where
   abbrev Kept : Reply → Type 0
   Kept r = Fits nodecount t (r .master)
 
-  -- a change of the permissions alone
-  holds-fit : (holds : List Hold) (m : Master) → Fits nodecount t m → holdsRight nodecount (t .window) holds ≡ true → Fits nodecount t (withHolds holds m)
-  holds-fit holds m f h = record { phase = f .phase; delay = f .delay; counts = f .counts; holds = h }
+  -- a cause of a node that is not held, in Normal
+  cause-right : (m : Master) (k c : ℕ) → isNormal (m .state) ≡ true → k < nodecount → leb c 4 ≡ true → causeRight (isNormal (m .state)) nodecount k false c ≡ true
+  cause-right m k c on l few = rw (on, lt-ltb k nodecount l, few)
 
-  let-go-fits : (k : ℕ) (m : Master) → Fits nodecount t m → Fits nodecount t (letGo k m)
-  let-go-fits k m f = holds-fit (set (m .holds) k noHold) m f (set-right nodecount (t .window) (m .holds) k noHold (f .holds) refl)
+  let-go-fits : (k c : ℕ) (m : Master) → isNormal (m .state) ≡ true → k < nodecount → leb c 4 ≡ true → Fits nodecount t m → Fits nodecount t (letGo k (withCause c k m))
+  let-go-fits k c m on l few f =
+      record {
+        phase = f .phase;
+        delay = f .delay;
+        counts = f .counts;
+        holds = set-right nodecount (t .window) (m .holds) k noHold (f .holds) refl;
+        causes = set-both-right nodecount (t .window) (isNormal (m .state)) (m .holds) (m .causes) k noHold c (f .causes) (cause-right m k c on l few) (cause-right m k c on l few);
+      }
 
-  let-all-go-fits : (m : Master) → Fits nodecount t m → Fits nodecount t (letAllGo m)
-  let-all-go-fits m f = holds-fit _ m f (rw (all-gone m) (none-right nodecount (t .window)))
+  drop-all-fits : (m : Master) → isNormal (m .state) ≡ true → Fits nodecount t m → Fits nodecount t (dropAll m)
+  drop-all-fits m on f =
+      record {
+        phase = f .phase;
+        delay = f .delay;
+        counts = f .counts;
+        holds = rw (all-gone m) (none-right nodecount (t .window));
+        causes = rw (all-gone m, on) (woken-right nodecount (t .window) (m .holds) (m .causes) (f .holds) (rw on at (f .causes)));
+      }
 
-  hold-fits : (k : ℕ) (m : Master) → k < nodecount → Fits nodecount t m → Fits nodecount t (hold k m)
+  -- a wake-up that node k's answer carried
+  carried-fits : (k c : ℕ) (m : Master) → isNormal (m .state) ≡ true → k < nodecount → leb c 4 ≡ true → Fits nodecount t m → Fits nodecount t (withCause c k (dropAll m))
+  carried-fits k c m on l few f =
+      let d = drop-all-fits m on f in
+      record {
+        phase = d .phase;
+        delay = d .delay;
+        counts = d .counts;
+        holds = d .holds;
+        causes = set-cause-right nodecount (t .window) (isNormal (m .state)) (allWoken (m .holds) (m .causes)) k c (d .causes) (cause-right m k c on l few);
+      }
+
+  hold-fits : (k : ℕ) (m : Master) → k < nodecount → Fits nodecount t m → Fits nodecount t (hold k (withCause 0 k m))
   hold-fits k m l f =
-      holds-fit (set (m .holds) k (record { held = true; age = 0 })) m f
-      (set-right nodecount (t .window) (m .holds) k (record { held = true; age = 0 }) (f .holds) (rw (lt-ltb k nodecount l, le-leb 0 (t .window) (omega arith))))
+      record {
+        phase = f .phase;
+        delay = f .delay;
+        counts = f .counts;
+        holds = set-right nodecount (t .window) (m .holds) k (record { held = true; age = 0 }) (f .holds) (rw (lt-ltb k nodecount l, le-leb 0 (t .window) (omega arith)));
+        causes =
+            set-both-right nodecount (t .window) (isNormal (m .state)) (m .holds) (m .causes) k (record { held = true; age = 0 }) 0 (f .causes)
+            (zero-right nodecount (t .window) (isNormal (m .state)) k true) (zero-right nodecount (t .window) (isNormal (m .state)) k false);
+      }
 
   -- a phase of Normal, delay 0
   phase-fits : (phase : Phase) (m : Master) → m .state ≡ State.Normal → Fits nodecount t m → Fits nodecount t (inPhase phase m)
-  phase-fits phase m e f = record { phase = rw e; delay = rw e (zero-fits phase); counts = f .counts; holds = f .holds }
+  phase-fits phase m e f = record { phase = rw e; delay = rw e (zero-fits phase); counts = f .counts; holds = f .holds; causes = f .causes }
     where
       zero-fits : (q : Phase) → delayRight t State.Normal q 0 ≡ true
       zero-fits Phase.Open = refl
@@ -151,7 +271,14 @@ module _ (nodecount : ℕ) (t : Times) (a : TimesFit t) where
       go State.Sleep e Phase.Closing w = other State.Sleep e Phase.Closing w refl refl
 
   aged-fits : (m : Master) → Fits nodecount t m → Fits nodecount t (aged (t .window) m)
-  aged-fits m f = record { phase = f .phase; delay = f .delay; counts = f .counts; holds = all-older-right nodecount (t .window) (m .holds) (f .holds) }
+  aged-fits m f =
+      record {
+        phase = f .phase;
+        delay = f .delay;
+        counts = f .counts;
+        holds = all-older-right nodecount (t .window) (m .holds) (f .holds);
+        causes = aged-out-right nodecount (t .window) (isNormal (m .state)) (m .holds) (m .causes) (f .holds) (f .causes);
+      }
 
   tick-fits : (m : Master) → Fits nodecount t m → Kept (tickBy t (m .state) (m .phase) m)
   tick-fits m f = go (m .state) refl (m .phase) refl
@@ -160,29 +287,29 @@ module _ (nodecount : ℕ) (t : Times) (a : TimesFit t) where
       go State.Sleep e q w = f
       go State.Standby e q w =
           by-test Kept (ltb (m .delay + 1) (t .start))
-          (λ l. record { phase = f .phase; delay = rw e l; counts = f .counts; holds = f .holds })
-          (λ l. record { phase = refl; delay = refl; counts = no-counts; holds = f .holds })
+          (λ l. record { phase = f .phase; delay = rw e l; counts = f .counts; holds = f .holds; causes = f .causes })
+          (λ l. record { phase = refl; delay = refl; counts = no-counts; holds = f .holds; causes = no-causes-right nodecount (t .window) true (m .holds) })
       go State.Normal e Phase.Open w = f
       go State.Normal e Phase.Sending w = f
       go State.Normal e Phase.Withdrawn w = f
       go State.Normal e Phase.Closing w =
           by-test Kept (ltb (m .delay + 1) (t .stop))
-          (λ l. record { phase = f .phase; delay = rw (e, w) l; counts = f .counts; holds = f .holds })
-          (λ l. record { phase = refl; delay = refl; counts = f .counts; holds = none-right nodecount (t .window) })
+          (λ l. record { phase = f .phase; delay = rw (e, w) l; counts = f .counts; holds = f .holds; causes = f .causes })
+          (λ l. record { phase = refl; delay = refl; counts = f .counts; holds = none-right nodecount (t .window); causes = no-causes-right nodecount (t .window) false noHolds })
 
   wake-up-fits : (m : Master) → Fits nodecount t m → Kept (wakeUpBy (m .state) m)
   wake-up-fits m f = go (m .state) refl
     where
       go : (s : State) → m .state ≡ s → Kept (wakeUpBy s m)
-      go State.Normal e = call-back-fits (letAllGo m) (let-all-go-fits m f)
+      go State.Normal e = call-back-fits (dropAll m) (drop-all-fits m (ap isNormal e) f)
       go State.Standby e = f
       go State.Sleep e =
-          record { phase = rw e at (f .phase); delay = lt-ltb 0 (t .start) (omega (arith, a .start .least)); counts = f .counts; holds = f .holds }
+          record { phase = rw e at (f .phase); delay = lt-ltb 0 (t .start) (omega (arith, a .start .least)); counts = f .counts; holds = f .holds; causes = rw e at (f .causes) }
 
   permission-fits : (permitted : Bool) (m : Master) → Fits nodecount t m → Kept (permissionStep permitted m)
-  permission-fits true m f = record { phase = f .phase; delay = f .delay; counts = f .counts; holds = f .holds }
+  permission-fits true m f = record { phase = f .phase; delay = f .delay; counts = f .counts; holds = f .holds; causes = f .causes }
   permission-fits false m f =
-      call-back-fits (withPermission false m) (record { phase = f .phase; delay = f .delay; counts = f .counts; holds = f .holds })
+      call-back-fits (withPermission false m) (record { phase = f .phase; delay = f .delay; counts = f .counts; holds = f .holds; causes = f .causes })
 
   sleep-ask-fits : (m : Master) → Fits nodecount t m → Kept (sleepAskBy nodecount (m .state) (m .phase) m)
   sleep-ask-fits m f = go (m .state) refl (m .phase)
@@ -210,36 +337,36 @@ module _ (nodecount : ℕ) (t : Times) (a : TimesFit t) where
       go b State.Standby e q = f
       go b State.Sleep e q = f
 
-  judged-fits : (k : ℕ) (permission wake : Bool) (m : Master) → k < nodecount → Fits nodecount t m → Fits nodecount t (judged k permission wake m)
-  judged-fits k permission wake m l f =
+  refused-fits : (k c : ℕ) (m : Master) → isNormal (m .state) ≡ true → k < nodecount → leb c 4 ≡ true → Fits nodecount t m → Fits nodecount t (callBack (letGo k (withCause c k m)))
+  refused-fits k c m on l few f = call-back-fits (letGo k (withCause c k m)) (let-go-fits k c m on l few f)
+
+  judged-fits : (k : ℕ) (permission wake : Bool) (m : Master) → isNormal (m .state) ≡ true → k < nodecount → Fits nodecount t m → Fits nodecount t (judged k permission wake m)
+  judged-fits k permission wake m on l f =
       by-test (Fits nodecount t) wake
-      (λ w. call-back-fits (letAllGo m) (let-all-go-fits m f))
-      (λ w. by-test (Fits nodecount t) permission (λ y. hold-fits k m l f) (λ y. call-back-fits (letGo k m) (let-go-fits k m f)))
+      (λ w. call-back-fits (withCause _ k (dropAll m)) (carried-fits k _ m on l refl f))
+      (λ w. by-test (Fits nodecount t) permission (λ y. hold-fits k m l f) (λ y. refused-fits k _ m on l refl f))
 
-  damaged-fits : (k number : ℕ) (m : Master) → Fits nodecount t m → Kept (damaged k number m)
-  damaged-fits k number m f = call-back-fits (letGo k m) (let-go-fits k m f)
-
-  whole-fits : (row : Row) (x : Answer) (m : Master) → row .publisher < nodecount → x .count < 4 → Fits nodecount t m → Kept (wholeStep row x m)
-  whole-fits row x m l c f =
+  whole-fits : (row : Row) (x : Answer) (m : Master) → isNormal (m .state) ≡ true → row .publisher < nodecount → x .count < 4 → Fits nodecount t m → Kept (wholeStep row x m)
+  whole-fits row x m on l c f =
       by-test Kept (isCounted row)
-      (λ y. judged-fits (row .publisher) (x .permission) (x .wake) (counted (row .reqid) (x .count) m) l
-      (record { phase = f .phase; delay = f .delay; counts = counts-set 5 (m .counts) (row .reqid) (x .count) (f .counts) (omega arith); holds = f .holds }))
-      (λ y. judged-fits (row .publisher) (x .permission) (x .wake) m l f)
+      (λ y. judged-fits (row .publisher) (x .permission) (x .wake) (counted (row .reqid) (x .count) m) on l
+      (record { phase = f .phase; delay = f .delay; counts = counts-set 5 (m .counts) (row .reqid) (x .count) (f .counts) (omega arith); holds = f .holds; causes = f .causes }))
+      (λ y. judged-fits (row .publisher) (x .permission) (x .wake) m on l f)
 
-  row-fits : (row : Row) (x : Answer) (m : Master) → (eqb (row .publisher) masterNumber ≡ false → row .publisher < nodecount) → x .count < 4 → Fits nodecount t m → Kept (rowStep row x m)
-  row-fits row x m l c f =
+  row-fits : (row : Row) (x : Answer) (m : Master) → isNormal (m .state) ≡ true → (eqb (row .publisher) masterNumber ≡ false → row .publisher < nodecount) → x .count < 4 → Fits nodecount t m → Kept (rowStep row x m)
+  row-fits row x m on l c f =
       by-test Kept (eqb (row .publisher) masterNumber)
       (λ y. f)
       (λ y. by-test Kept (eqb (x .result) 0)
-      (λ z. by-test Kept (accepts row (x .length)) (λ w. whole-fits row x m (l y) c f) (λ w. damaged-fits (row .publisher) 14 m f))
-      (λ z. damaged-fits (row .publisher) 13 m f))
+      (λ z. by-test Kept (accepts row (x .length)) (λ w. whole-fits row x m on (l y) c f) (λ w. refused-fits (row .publisher) _ m on (l y) refl f))
+      (λ z. refused-fits (row .publisher) _ m on (l y) refl f))
 
-  answer-fits : (s : State) (row : Lookup) (x : Answer) (m : Master)
+  answer-fits : (s : State) (row : Lookup) (x : Answer) (m : Master) → m .state ≡ s
       → ((r : Row) → row ≡ Lookup.Found r → eqb (r .publisher) masterNumber ≡ false → r .publisher < nodecount) → x .count < 4 → Fits nodecount t m → Kept (answerBy s row x m)
-  answer-fits State.Normal Lookup.Missing x m l c f = f
-  answer-fits State.Normal (Lookup.Found r) x m l c f = row-fits r x m (l r refl) c f
-  answer-fits State.Standby row x m l c f = f
-  answer-fits State.Sleep row x m l c f = f
+  answer-fits State.Normal Lookup.Missing x m e l c f = f
+  answer-fits State.Normal (Lookup.Found r) x m e l c f = row-fits r x m (ap isNormal e) (l r refl) c f
+  answer-fits State.Standby row x m e l c f = f
+  answer-fits State.Sleep row x m e l c f = f
 
 -- what an event does keeps the range
 pub act-fits : (p : Plan) → planRefusal p ≡ 0 → (m : Master) (e : Event) → eventRight e ≡ true → Fits (p .nodecount) (p .times) m → Fits (p .nodecount) (p .times) (act p m e .master)
@@ -251,7 +378,7 @@ act-fits p ok m e r f = go e r
     go : (e : Event) → eventRight e ≡ true → Fits (p .nodecount) (p .times) (act p m e .master)
     go Event.Tick r = tick-fits (p .nodecount) (p .times) a (aged (p .times .window) m) (aged-fits (p .nodecount) (p .times) a m f)
     go (Event.Answer x) r =
-        answer-fits (p .nodecount) (p .times) a (m .state) (findRow p (x .reqid)) x m (λ row q. found-publisher p (x .reqid) row ok q)
+        answer-fits (p .nodecount) (p .times) a (m .state) (findRow p (x .reqid)) x m refl (λ row q. found-publisher p (x .reqid) row ok q)
         (ltb-true (x .count) 4 (and-r (ltb (x .reqid) 128) (ltb (x .count) 4) r)) f
     go Event.Pulse r = wake-up-fits (p .nodecount) (p .times) a m f
     go Event.WakeAsk r = wake-up-fits (p .nodecount) (p .times) a m f
@@ -273,4 +400,4 @@ range-kept p ok m e r = in-range (p .nodecount) (p .times) _ (go (fits (p .nodec
         (λ q. f)
 
 pub power-on-fits : (nodecount : ℕ) (t : Times) → inRange nodecount t powerOn ≡ true
-power-on-fits nodecount t = in-range nodecount t powerOn (record { phase = refl; delay = refl; counts = no-counts; holds = none-right nodecount (t .window) })
+power-on-fits nodecount t = in-range nodecount t powerOn (record { phase = refl; delay = refl; counts = no-counts; holds = none-right nodecount (t .window); causes = no-causes-right nodecount (t .window) false noHolds })

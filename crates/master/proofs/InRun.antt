@@ -24,9 +24,9 @@ use Rattle.master.specs.declared.Command.{Command}
 use Rattle.master.specs.declared.Answer.{Answer}
 use Rattle.master.specs.declared.Master.{Master}
 use Rattle.master.specs.declared.Reply.{Reply}
-use Rattle.master.specs.Changes.{noHold, noHolds, powerOn, inPhase, withPermission, withHolds, withCounts, callBackBy, callBack, commands}
+use Rattle.master.specs.Changes.{noHold, noHolds, powerOn, inPhase, withPermission, withCounts, letGo, withCause, dropAll, callBackBy, callBack, commands}
 use Rattle.master.specs.Clock.{isOff}
-use Rattle.master.specs.Ticks.{older, olderAt, allOlder, aged, tickBy, tickStep}
+use Rattle.master.specs.Ticks.{older, olderAt, allOlder, allAgedOut, aged, tickBy, tickStep}
 use Rattle.master.specs.Waking.{wakeUpBy, wakeUpStep, permissionStep}
 use Rattle.master.specs.Sleeping.{notHeld, sleepAskBy, sleepAskStep, sendResultBy, sendResultStep}
 use Rattle.master.specs.Answers.{isWhole, judged, rowStep}
@@ -62,7 +62,7 @@ none-held i l = ap (λ (h : Hold). h .held) (getD-replicate 16 i noHold noHold l
 -- m itself where these are its own state and phase
 abbrev split : Master → State → Phase → Master
 split m state phase =
-    record { state = state; phase = phase; permission = m .permission; holds = m .holds; counts = m .counts; delay = m .delay; ticks = m .ticks }
+    record { state = state; phase = phase; permission = m .permission; holds = m .holds; causes = m .causes; counts = m .counts; delay = m .delay; ticks = m .ticks }
 
 older-held : (window : ℕ) (h : Hold) → older window h .held ≡ true → (h .held ≡ true) × (h .age < window) × (older window h .age ≡ suc (h .age))
 older-held window h =
@@ -137,7 +137,7 @@ module _ (n : ℕ) (few : n ≤ 16) (t : Times) (Given Given′ : ℕ → ℕ �
   run-wake-up m v = go (m .state) (v .outside)
     where
       go : (s : State) → (isNormal s ≡ false → NoneHeld (m .holds) × (underWay (m .phase) ≡ false)) → After (wakeUpBy s (split m s (m .phase)) .master)
-      go State.Normal o = back (withHolds noHolds (split m State.Normal (m .phase))) (v .permission) (none-holds noHolds none-held) (λ e. none-held)
+      go State.Normal o = back (dropAll (split m State.Normal (m .phase))) (v .permission) (none-holds noHolds none-held) (λ e. none-held)
       go State.Standby o =
           record { permission = v .permission; holds = none-holds (m .holds) (o refl .0); agreed = λ g. no-way (sym (o refl .1) ∙ g); outside = o }
       go State.Sleep o =
@@ -152,13 +152,13 @@ module _ (n : ℕ) (few : n ≤ 16) (t : Times) (Given Given′ : ℕ → ℕ �
 
       -- outside Normal, as it was
       off : (s : State) (q : Phase) (delay : ℕ) → isNormal s ≡ false → Before (split m s q)
-          → After (record { state = s; phase = q; permission = m .permission; holds = allOlder (t .window) (m .holds); counts = m .counts; delay = delay; ticks = aged (t .window) m .ticks })
+          → After (record { state = s; phase = q; permission = m .permission; holds = allOlder (t .window) (m .holds); causes = allAgedOut (isNormal s) (t .window) (m .holds) (m .causes); counts = m .counts; delay = delay; ticks = aged (t .window) m .ticks })
       off s q delay e v =
           record { permission = v .permission; holds = none-holds (allOlder (t .window) (m .holds)) (quiet s q e v); agreed = λ g. agree (v .agreed g); outside = λ h. (quiet s q e v, v .outside e .1) }
 
       -- in Normal, as it was
       on : (q : Phase) (delay : ℕ) → Before (split m State.Normal q)
-          → After (record { state = State.Normal; phase = q; permission = m .permission; holds = allOlder (t .window) (m .holds); counts = m .counts; delay = delay; ticks = aged (t .window) m .ticks })
+          → After (record { state = State.Normal; phase = q; permission = m .permission; holds = allOlder (t .window) (m .holds); causes = allAgedOut true (t .window) (m .holds) (m .causes); counts = m .counts; delay = delay; ticks = aged (t .window) m .ticks })
       on q delay v =
           record { permission = v .permission; holds = holds-older (m .holds) later (v .holds); agreed = λ g. agree (v .agreed g); outside = λ e. no-way (sym e) }
 
@@ -235,8 +235,8 @@ module _ (n : ℕ) (few : n ≤ 16) (t : Times) (Given Given′ : ℕ → ℕ �
       (λ e. by-test P (eqb (a .result) 0)
       (λ z. by-test P (accepts row (a .length))
       (λ w. by-test P (isCounted row) (λ c. whole (set (m .counts) (row .reqid) (a .count)) z w) (λ c. whole (m .counts) z w))
-      (λ w. dropped (m .counts) (rw (z, w))))
-      (λ z. dropped (m .counts) (rw z)))
+      (λ w. dropped _ (m .counts) (rw (z, w))))
+      (λ z. dropped _ (m .counts) (rw z)))
     where
       P : Reply → Type 0
       P r = After (r .master)
@@ -245,15 +245,15 @@ module _ (n : ℕ) (few : n ≤ 16) (t : Times) (Given Given′ : ℕ → ℕ �
       inside e = no-way (sym e ∙ on)
 
       -- the publisher's permission goes
-      dropped : (counts : List ℕ) → (isWhole row a && a .wake) ≡ false → After (callBack (withHolds (set (m .holds) (row .publisher) noHold) (withCounts counts m)))
-      dropped counts e =
-          back (withHolds (set (m .holds) (row .publisher) noHold) (withCounts counts m)) (v .permission)
+      dropped : (cause : ℕ) (counts : List ℕ) → (isWhole row a && a .wake) ≡ false → After (callBack (letGo (row .publisher) (withCause cause (row .publisher) (withCounts counts m))))
+      dropped cause counts e =
+          back (letGo (row .publisher) (withCause cause (row .publisher) (withCounts counts m))) (v .permission)
           (holds-set (m .holds) (row .publisher) noHold (λ i k h n. others i k h n e) (λ y. no-way y) (v .holds)) inside
 
       whole : (counts : List ℕ) → eqb (a .result) 0 ≡ true → accepts row (a .length) ≡ true → After (judged (row .publisher) (a .permission) (a .wake) (withCounts counts m))
       whole counts z w =
           by-test After (a .wake)
-          (λ x. back (withHolds noHolds (withCounts counts m)) (v .permission) (none-holds noHolds none-held) inside)
+          (λ x. back (withCause _ (row .publisher) (dropAll (withCounts counts m))) (v .permission) (none-holds noHolds none-held) inside)
           (λ x. by-test After (a .permission)
           (λ y. let g = given (rw (z, w)) y x in
           record {
@@ -262,7 +262,7 @@ module _ (n : ℕ) (few : n ≤ 16) (t : Times) (Given Given′ : ℕ → ℕ �
             agreed = λ h. g .1 (v .agreed h);
             outside = inside;
           })
-          (λ y. dropped counts (rw (z, w, x))))
+          (λ y. dropped _ counts (rw (z, w, x))))
 
 -- the application's word; a no calls back
 pub run-permission : (n : ℕ) (few : n ≤ 16) (t : Times) (Given Given′ : ℕ → ℕ → Type 0) (Agreed Agreed′ : Type 0) (permitted word : Bool) (m : Master)

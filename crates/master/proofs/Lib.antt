@@ -1,5 +1,6 @@
 pub mod Clock
 pub mod InRange
 pub mod InRun
+pub mod NoBearing
 pub mod Places
 pub mod Refusals

@@ -1,4 +1,4 @@
--- A step of the master keeps the places of its permissions and its sequence counts.
+-- A step of the master keeps the places of its permissions, their causes and its sequence counts.
 use Prim.Native.Nat.{ℕ, _+_}
 use mathlib.Core.Path.{_≡_, refl, _∙_}
 use mathlib.Core.Bool.{Bool, true, false}
@@ -8,6 +8,7 @@ use Rattle.folds.specs.Fold.{firstTo}
 use Rattle.folds.proofs.Choices.{by-test}
 use Rattle.folds.proofs.Tables.{length-tab}
 use Rattle.machine.specs.declared.State.{State}
+use Rattle.machine.specs.State.{isNormal}
 use Rattle.plan.specs.declared.Row.{Row}
 use Rattle.plan.specs.declared.Times.{Times}
 use Rattle.plan.specs.declared.Lookup.{Lookup}
@@ -21,9 +22,9 @@ use Rattle.master.specs.declared.Answer.{Answer}
 use Rattle.master.specs.declared.Master.{Master}
 use Rattle.master.specs.declared.Event.{Event}
 use Rattle.master.specs.declared.Reply.{Reply}
-use Rattle.master.specs.Changes.{callBackBy, letGo, letAllGo}
+use Rattle.master.specs.Changes.{wokenAt, allWoken, letGo, withCause, dropAll, callBackBy}
 use Rattle.master.specs.Range.{inRange}
-use Rattle.master.specs.Ticks.{allOlder, olderAt, aged, tickBy}
+use Rattle.master.specs.Ticks.{allOlder, olderAt, agedOutAt, allAgedOut, aged, tickBy}
 use Rattle.master.specs.Waking.{wakeUpBy, permissionStep}
 use Rattle.master.specs.Sleeping.{notHeld, sleepAskBy, sendResultBy}
 use Rattle.master.specs.Answers.{judged, counted, rowStep, answerBy}
@@ -31,6 +32,7 @@ use Rattle.master.specs.Step.{eventRight, act, masterStep}
 
 pub record Placed (m : Master) : Type 0 where
   pub holds : length (m .holds) ≡ maxNodes
+  pub causes : length (m .causes) ≡ maxNodes
   pub counts : length (m .counts) ≡ reqids
 
 abbrev After : Reply → Type 0
@@ -38,51 +40,60 @@ After r = Placed (r .master)
 
 called-back : (q : Phase) (m : Master) → Placed m → Placed (callBackBy q m)
 called-back Phase.Open m h = h
-called-back Phase.Sending m h = record { holds = h .holds; counts = h .counts }
+called-back Phase.Sending m h = record { holds = h .holds; causes = h .causes; counts = h .counts }
 called-back Phase.Withdrawn m h = h
-called-back Phase.Closing m h = record { holds = h .holds; counts = h .counts }
+called-back Phase.Closing m h = record { holds = h .holds; causes = h .causes; counts = h .counts }
 
-let-go : (node : ℕ) (m : Master) → Placed m → Placed (letGo node m)
-let-go node m h = record { holds = length-set (m .holds) node _ ∙ h .holds; counts = h .counts }
+let-go : (cause node : ℕ) (m : Master) → Placed m → Placed (letGo node (withCause cause node m))
+let-go cause node m h = record { holds = length-set (m .holds) node _ ∙ h .holds; causes = length-set (m .causes) node _ ∙ h .causes; counts = h .counts }
 
-all-let-go : (m : Master) → Placed m → Placed (letAllGo m)
-all-let-go m h = record { holds = refl; counts = h .counts }
+all-dropped : (m : Master) → Placed m → Placed (dropAll m)
+unfolding allWoken
+all-dropped m h = record { holds = refl; causes = length-tab maxNodes (wokenAt (m .holds) (m .causes)); counts = h .counts }
+
+with-cause : (cause node : ℕ) (m : Master) → Placed m → Placed (withCause cause node m)
+with-cause cause node m h = record { holds = h .holds; causes = length-set (m .causes) node _ ∙ h .causes; counts = h .counts }
 
 judged-placed : (publisher : ℕ) (permission wake : Bool) (m : Master) → Placed m → Placed (judged publisher permission wake m)
 judged-placed publisher permission wake m h =
-    by-test Placed wake (λ w. called-back (m .phase) (letAllGo m) (all-let-go m h))
+    by-test Placed wake (λ w. called-back (m .phase) (withCause _ publisher (dropAll m)) (with-cause _ publisher (dropAll m) (all-dropped m h)))
     (λ w. by-test Placed permission
-    (λ p. record { holds = length-set (m .holds) publisher _ ∙ h .holds; counts = h .counts })
-    (λ p. called-back (m .phase) (letGo publisher m) (let-go publisher m h)))
+    (λ p. record { holds = length-set (m .holds) publisher _ ∙ h .holds; causes = length-set (m .causes) publisher _ ∙ h .causes; counts = h .counts })
+    (λ p. called-back (m .phase) (letGo publisher (withCause _ publisher m)) (let-go _ publisher m h)))
 
 tick-placed : (t : Times) (s : State) (q : Phase) (x : Master) → Placed x → After (tickBy t s q x)
 tick-placed t State.Sleep q x h = h
 tick-placed t State.Standby q x h =
-    by-test After (ltb (x .delay + 1) (t .start)) (λ l. record { holds = h .holds; counts = h .counts }) (λ l. record { holds = h .holds; counts = refl })
+    by-test After (ltb (x .delay + 1) (t .start)) (λ l. record { holds = h .holds; causes = h .causes; counts = h .counts }) (λ l. record { holds = h .holds; causes = refl; counts = refl })
 tick-placed t State.Normal Phase.Open x h = h
 tick-placed t State.Normal Phase.Sending x h = h
 tick-placed t State.Normal Phase.Withdrawn x h = h
 tick-placed t State.Normal Phase.Closing x h =
-    by-test After (ltb (x .delay + 1) (t .stop)) (λ l. record { holds = h .holds; counts = h .counts }) (λ l. record { holds = refl; counts = h .counts })
+    by-test After (ltb (x .delay + 1) (t .stop)) (λ l. record { holds = h .holds; causes = h .causes; counts = h .counts }) (λ l. record { holds = refl; causes = refl; counts = h .counts })
 
 module _ (m : Master) (h : Placed m) where
   aged-placed : (window : ℕ) → Placed (aged window m)
-  unfolding allOlder
-  aged-placed window = record { holds = length-tab maxNodes (olderAt window (m .holds)); counts = h .counts }
+  unfolding allOlder allAgedOut
+  aged-placed window =
+      record {
+        holds = length-tab maxNodes (olderAt window (m .holds));
+        causes = length-tab maxNodes (agedOutAt (isNormal (m .state)) window (m .holds) (m .causes));
+        counts = h .counts;
+      }
 
   wake-up-placed : (s : State) → After (wakeUpBy s m)
-  wake-up-placed State.Normal = called-back (m .phase) (letAllGo m) (all-let-go m h)
+  wake-up-placed State.Normal = called-back (m .phase) (dropAll m) (all-dropped m h)
   wake-up-placed State.Standby = h
-  wake-up-placed State.Sleep = record { holds = h .holds; counts = h .counts }
+  wake-up-placed State.Sleep = record { holds = h .holds; causes = h .causes; counts = h .counts }
 
   permission-placed : (permitted : Bool) → After (permissionStep permitted m)
-  permission-placed true = record { holds = h .holds; counts = h .counts }
-  permission-placed false = called-back (m .phase) _ (record { holds = h .holds; counts = h .counts })
+  permission-placed true = record { holds = h .holds; causes = h .causes; counts = h .counts }
+  permission-placed false = called-back (m .phase) _ (record { holds = h .holds; causes = h .causes; counts = h .counts })
 
   sleep-ask-placed : (nodecount : ℕ) (s : State) (q : Phase) → After (sleepAskBy nodecount s q m)
   sleep-ask-placed nodecount State.Normal Phase.Open =
       by-test After (m .permission)
-      (λ y. by-test After (ltb (firstTo (notHeld (m .holds)) nodecount) nodecount) (λ l. h) (λ l. record { holds = h .holds; counts = h .counts }))
+      (λ y. by-test After (ltb (firstTo (notHeld (m .holds)) nodecount) nodecount) (λ l. h) (λ l. record { holds = h .holds; causes = h .causes; counts = h .counts }))
       (λ y. h)
   sleep-ask-placed nodecount State.Normal Phase.Sending = h
   sleep-ask-placed nodecount State.Normal Phase.Withdrawn = h
@@ -92,15 +103,15 @@ module _ (m : Master) (h : Placed m) where
 
   send-result-placed : (sent : Bool) (s : State) (q : Phase) → After (sendResultBy sent s q m)
   send-result-placed sent State.Normal Phase.Open = h
-  send-result-placed true State.Normal Phase.Sending = record { holds = h .holds; counts = h .counts }
-  send-result-placed false State.Normal Phase.Sending = record { holds = h .holds; counts = h .counts }
-  send-result-placed sent State.Normal Phase.Withdrawn = record { holds = h .holds; counts = h .counts }
+  send-result-placed true State.Normal Phase.Sending = record { holds = h .holds; causes = h .causes; counts = h .counts }
+  send-result-placed false State.Normal Phase.Sending = record { holds = h .holds; causes = h .causes; counts = h .counts }
+  send-result-placed sent State.Normal Phase.Withdrawn = record { holds = h .holds; causes = h .causes; counts = h .counts }
   send-result-placed sent State.Normal Phase.Closing = h
   send-result-placed sent State.Standby q = h
   send-result-placed sent State.Sleep q = h
 
-  damaged-placed : (publisher : ℕ) → Placed (callBackBy (m .phase) (letGo publisher m))
-  damaged-placed publisher = called-back (m .phase) (letGo publisher m) (let-go publisher m h)
+  damaged-placed : (cause publisher : ℕ) → Placed (callBackBy (m .phase) (letGo publisher (withCause cause publisher m)))
+  damaged-placed cause publisher = called-back (m .phase) (letGo publisher (withCause cause publisher m)) (let-go cause publisher m h)
 
   row-placed : (row : Row) (a : Answer) → After (rowStep row a m)
   row-placed row a =
@@ -108,10 +119,10 @@ module _ (m : Master) (h : Placed m) where
       (λ y. by-test After (eqb (a .result) 0)
       (λ z. by-test After (accepts row (a .length))
       (λ w. by-test After (isCounted row)
-      (λ c. judged-placed (row .publisher) (a .permission) (a .wake) (counted (row .reqid) (a .count) m) (record { holds = h .holds; counts = length-set (m .counts) (row .reqid) _ ∙ h .counts }))
+      (λ c. judged-placed (row .publisher) (a .permission) (a .wake) (counted (row .reqid) (a .count) m) (record { holds = h .holds; causes = h .causes; counts = length-set (m .counts) (row .reqid) _ ∙ h .counts }))
       (λ c. judged-placed (row .publisher) (a .permission) (a .wake) m h))
-      (λ w. damaged-placed (row .publisher)))
-      (λ z. damaged-placed (row .publisher)))
+      (λ w. damaged-placed _ (row .publisher)))
+      (λ z. damaged-placed _ (row .publisher)))
 
   answer-placed : (s : State) (row : Lookup) (a : Answer) → After (answerBy s row a m)
   answer-placed State.Normal Lookup.Missing a = h

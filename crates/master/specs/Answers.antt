@@ -13,24 +13,27 @@ use Rattle.master.specs.declared.Command.{Command}
 use Rattle.master.specs.declared.Answer.{Answer}
 use Rattle.master.specs.declared.Master.{Master}
 use Rattle.master.specs.declared.Reply.{Reply}
-use Rattle.master.specs.Changes.{noCount, withCounts, letGo, letAllGo, hold, callBack, refuse}
+use Rattle.master.specs.Changes.{causeNew, causeRefused, causeDamaged, causeWake, noCount, withCounts, letGo, hold, withCause, dropAll, callBack, refuse}
 
 -- "Whole: an answer that reached the master with result 0 and a length its row accepts"
 abbrev pub isWhole : Row → Answer → Bool
 isWhole row a = eqb (a .result) 0 && accepts row (a .length)
 
--- "13 or 14: let the publisher's permission go, call back"
+-- "13 or 14: let the publisher's permission go, call back"; "a wrong length is damage"
 abbrev pub damaged : ℕ → ℕ → Master → Reply
-damaged publisher number m = refuse (callBack (letGo publisher m)) number
+damaged publisher number m = refuse (callBack (letGo publisher (withCause causeDamaged publisher m))) number
 
 -- "report as lost (count − last − 1) modulo 4, or 0 if last was 4"
 abbrev pub lostAfter : ℕ → ℕ → ℕ
 lostAfter last count = pick (ltb last noCount) ((count + seqCounts - last - 1) % seqCounts) 0
 
--- "wake bit 1: let all go, call back. Else permission bit 1: held with age 0. Else let go, call back"
+-- "wake bit 1: let all go, call back. Else permission bit 1: held with age 0. Else let go, call back";
+-- "A wake-up is the cause for nodes it let go and for the one whose answer carried it"
 abbrev pub judged : ℕ → Bool → Bool → Master → Master
 judged publisher permission wake m =
-    pick wake (callBack (letAllGo m)) (pick permission (hold publisher m) (callBack (letGo publisher m)))
+    pick wake (callBack (withCause causeWake publisher (dropAll m)))
+    (pick permission (hold publisher (withCause causeNew publisher m))
+    (callBack (letGo publisher (withCause causeRefused publisher m))))
 
 -- "and store it"
 abbrev pub counted : ℕ → ℕ → Master → Master

@@ -1,18 +1,19 @@
 -- The limits of the master's fields, by which 11 is judged.
 use Prim.Native.Nat.{ℕ, _+_}
-use mathlib.Core.Bool.{Bool, true, false, _&&_}
+use mathlib.Core.Bool.{Bool, true, false, not, _&&_}
 use mathlib.Core.List.{List}
 use lib.Dec.{leb, ltb, eqb}
 use lib.ListN.{getD}
 use Rattle.folds.specs.Fold.{pick, allTo}
 use Rattle.machine.specs.declared.State.{State}
+use Rattle.machine.specs.State.{isNormal}
 use Rattle.machine.specs.Counts.{countsBelow}
 use Rattle.plan.specs.declared.Times.{Times}
 use Rattle.plan.specs.Limits.{maxNodes}
 use Rattle.master.specs.declared.Phase.{Phase}
 use Rattle.master.specs.declared.Hold.{Hold}
 use Rattle.master.specs.declared.Master.{Master}
-use Rattle.master.specs.Changes.{noHold, noCount}
+use Rattle.master.specs.Changes.{noHold, causeNew, causeWake, noCount}
 
 abbrev pub isOpen : Phase → Bool
 isOpen Phase.Open = true
@@ -45,7 +46,20 @@ holdRightAt nodecount window holds node = holdRight nodecount window node (getD 
 unfoldable pub holdsRight : ℕ → ℕ → List Hold → Bool
 holdsRight nodecount window holds = allTo (holdRightAt nodecount window holds) maxNodes
 
+-- at most 4; "0 for never answered, a held node, outside Normal and from N on"
+abbrev pub causeRight : Bool → ℕ → ℕ → Bool → ℕ → Bool
+causeRight normal nodecount node held cause =
+    pick (normal && ltb node nodecount && not held) (leb cause causeWake) (eqb cause causeNew)
+
+abbrev pub causeRightAt : Bool → ℕ → List Hold → List ℕ → ℕ → Bool
+causeRightAt normal nodecount holds causes node =
+    causeRight normal nodecount node (getD holds node noHold .held) (getD causes node causeNew)
+
+unfoldable pub causesRight : Bool → ℕ → List Hold → List ℕ → Bool
+causesRight normal nodecount holds causes = allTo (causeRightAt normal nodecount holds causes) maxNodes
+
 -- "per ReqId a table of 128 places, last count 0 to 3 or 4 for none", and the others; any tick number of 32 bits
 unfoldable pub inRange : ℕ → Times → Master → Bool
 inRange nodecount t m =
-    phaseRight (m .state) (m .phase) && delayRight t (m .state) (m .phase) (m .delay) && countsBelow (noCount + 1) (m .counts) && holdsRight nodecount (t .window) (m .holds)
+    phaseRight (m .state) (m .phase) && delayRight t (m .state) (m .phase) (m .delay) && countsBelow (noCount + 1) (m .counts)
+    && (holdsRight nodecount (t .window) (m .holds) && causesRight (isNormal (m .state)) nodecount (m .holds) (m .causes))

@@ -1,11 +1,12 @@
 -- The master's ticks.
 use Prim.Native.Nat.{ℕ, _+_, _%_, _^_}
-use mathlib.Core.Bool.{true}
+use mathlib.Core.Bool.{Bool, true, _&&_}
 use mathlib.Core.List.{List}
-use lib.Dec.{ltb}
+use lib.Dec.{leb, ltb}
 use lib.ListN.{getD}
 use Rattle.folds.specs.Fold.{pick, tab}
 use Rattle.machine.specs.declared.State.{State}
+use Rattle.machine.specs.State.{isNormal}
 use Rattle.plan.specs.declared.Times.{Times}
 use Rattle.plan.specs.Limits.{maxNodes}
 use Rattle.master.specs.declared.Phase.{Phase}
@@ -13,7 +14,7 @@ use Rattle.master.specs.declared.Hold.{Hold}
 use Rattle.master.specs.declared.Command.{Command}
 use Rattle.master.specs.declared.Master.{Master}
 use Rattle.master.specs.declared.Reply.{Reply}
-use Rattle.master.specs.Changes.{noHold, noCounts, inState, inPhase, withCounts, withDelay, letAllGo, silent, commands}
+use Rattle.master.specs.Changes.{noHold, causeNew, causeAged, noCauses, noCounts, inState, inPhase, withCauses, withCounts, withDelay, letAllGo, silent, commands}
 
 -- "held ages up by one, and one above W is let go"
 abbrev pub older : ℕ → Hold → Hold
@@ -25,6 +26,16 @@ olderAt window holds k = older window (getD holds k noHold)
 unfoldable pub allOlder : ℕ → List Hold → List Hold
 allOlder window holds = tab maxNodes (olderAt window holds)
 
+-- one let go so in Normal is "aged out"
+abbrev pub agedOut : Bool → ℕ → Hold → ℕ → ℕ
+agedOut normal window h cause = pick (normal && h .held && leb window (h .age)) causeAged cause
+
+abbrev pub agedOutAt : Bool → ℕ → List Hold → List ℕ → ℕ → ℕ
+agedOutAt normal window holds causes k = agedOut normal window (getD holds k noHold) (getD causes k causeNew)
+
+unfoldable pub allAgedOut : Bool → ℕ → List Hold → List ℕ → List ℕ
+allAgedOut normal window holds causes = tab maxNodes (agedOutAt normal window holds causes)
+
 -- "Tick, any state: tick number up by one", which "returns to 0 after 4,294,967,295"
 abbrev pub aged : ℕ → Master → Master
 aged window m =
@@ -33,18 +44,19 @@ aged window m =
       phase = m .phase;
       permission = m .permission;
       holds = allOlder window (m .holds);
+      causes = allAgedOut (isNormal (m .state)) window (m .holds) (m .causes);
       counts = m .counts;
       delay = m .delay;
       ticks = (m .ticks + 1) % 2 ^ 32;
     }
 
--- "go Normal, counts all 4"
+-- "go Normal, counts all 4", with no causes
 abbrev pub toNormal : Master → Master
-toNormal m = inPhase Phase.Open (inState State.Normal (withCounts noCounts m))
+toNormal m = inPhase Phase.Open (inState State.Normal (withCounts noCounts (withCauses noCauses m)))
 
--- "go Sleep, phase 0, let all go"
+-- "go Sleep, phase 0, let all go", with no causes
 abbrev pub toSleep : Master → Master
-toSleep m = inPhase Phase.Open (inState State.Sleep (letAllGo m))
+toSleep m = inPhase Phase.Open (inState State.Sleep (letAllGo (withCauses noCauses m)))
 
 -- "Standby: at the C-th tick, command clock on"
 abbrev pub standbyTick : ℕ → Master → Reply

@@ -3,11 +3,11 @@ use mathlib.Core.Bool.{Bool, true, false}
 use Rattle.machine.specs.declared.State.{State}
 use Rattle.master.specs.declared.Master.{Master}
 use Rattle.master.specs.declared.Reply.{Reply}
-use Rattle.master.specs.Changes.{inState, withPermission, letAllGo, callBack, silent}
+use Rattle.master.specs.Changes.{inState, withPermission, dropAll, callBack, silent}
 
 -- "Wake-up pulse, or own ask to wake: in Normal let all go and call back; in Sleep go Standby; in Standby nothing"
 abbrev pub wakeUpBy : State → Master → Reply
-wakeUpBy State.Normal m = silent (callBack (letAllGo m))
+wakeUpBy State.Normal m = silent (callBack (dropAll m))
 wakeUpBy State.Sleep m = silent (inState State.Standby m)
 wakeUpBy State.Standby m = silent m
 

@@ -30,7 +30,8 @@ impl Master {
     fn damaged(self, publisher: u8, refusal: u8) -> Reply
         ensures { λ r. ⌜ r ≡ damaged publisher refusal self ⌝ }
     {
-        refuse(self.let_go(publisher).call_back(), refusal)
+        let marked = self.because(Master::DAMAGED, publisher);
+        refuse(marked.let_go(publisher).call_back(), refusal)
     }
 
     // What the bits of a whole answer do.
@@ -38,12 +39,14 @@ impl Master {
         ensures { λ r. ⌜ r ≡ judged publisher permission wake self ⌝ }
     {
         if wake {
-            self.let_all_go().call_back()
+            self.drop_all().because(Master::WAKE, publisher).call_back()
         } else {
             if permission {
-                self.hold(publisher)
+                self.because(Master::NEW, publisher).hold(publisher)
             } else {
-                self.let_go(publisher).call_back()
+                self.because(Master::REFUSED, publisher)
+                    .let_go(publisher)
+                    .call_back()
             }
         }
     }

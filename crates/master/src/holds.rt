@@ -3,7 +3,7 @@ ghost use mathlib.Core.Path.{_≡_};
 ghost use lib.ListN.{set};
 ghost use Rattle.folds.specs.Fold.{firstTo};
 ghost use Rattle.master.specs.Changes.{letGo, letAllGo, hold};
-ghost use Rattle.master.specs.Ticks.{older, allOlder};
+ghost use Rattle.master.specs.Ticks.{older};
 ghost use Rattle.master.specs.Sleeping.{notHeld};
 use crate::Hold;
 use crate::Master;
@@ -34,19 +34,6 @@ pub fn older(window: u16, hold: Hold) -> Hold
     } else {
         hold
     }
-}
-
-pub(crate) fn all_older(window: u16, holds: [Hold; Plan::NODES]) -> [Hold; Plan::NODES]
-    ensures { λ r. ⌜ r ≡ allOlder window holds ⌝ }
-{
-    let mut next = [Master::NO_HOLD; Plan::NODES];
-    let mut i: usize = 0;
-    while i < Plan::NODES {
-        let hold = holds[i];
-        next[i] = older(window, hold);
-        i += 1;
-    }
-    next
 }
 
 // The lowest node whose permission is not held, the number of nodes where each is.

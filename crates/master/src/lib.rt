@@ -10,6 +10,7 @@ use plan::Times;
 use plan::plan_refusal;
 
 mod answers;
+mod causes;
 mod holds;
 mod range;
 mod sleeping;
@@ -74,6 +75,8 @@ pub struct Master {
     pub phase: Phase,
     pub permission: bool,
     pub holds: [Hold; Plan::NODES],
+    // why each permission is not held; NEW where it is, outside Normal and past the last node
+    pub causes: [u8; Plan::NODES],
     // the last count per ReqId, NO_COUNT for none
     pub counts: [u8; Row::REQIDS],
     // ticks in Standby or Closing
@@ -161,6 +164,16 @@ impl Master {
         held: false,
         age: 0,
     };
+    // The causes: no answer since Normal, or the last of the others.
+    pub const NEW: u8 = 0;
+
+    pub const REFUSED: u8 = 1;
+
+    pub const AGED: u8 = 2;
+    // also a wrong length
+    pub const DAMAGED: u8 = 3;
+
+    pub const WAKE: u8 = 4;
 
     pub fn power_on() -> Master
         ensures { λ r. ⌜ r ≡ powerOn ⌝ }
@@ -170,6 +183,7 @@ impl Master {
             phase: Phase::Open,
             permission: false,
             holds: [Master::NO_HOLD; Plan::NODES],
+            causes: [Master::NEW; Plan::NODES],
             counts: [Master::NO_COUNT; Row::REQIDS],
             delay: 0,
             ticks: 0,

@@ -1,11 +1,13 @@
 // The limits of the master's fields.
 ghost use mathlib.Core.Path.{_≡_};
-ghost use Rattle.master.specs.Range.{phaseRight, delayRight, holdRight, holdsRight, inRange};
+ghost use mathlib.Core.Bool.{_&&_};
+ghost use Rattle.master.specs.Range.{phaseRight, delayRight, holdRight, holdsRight, causeRight, causesRight, inRange};
 use crate::Hold;
 use crate::Master;
 use crate::Phase;
 use machine::State;
 use machine::counts_below;
+use machine::is_normal;
 use plan::Plan;
 use plan::Times;
 
@@ -54,13 +56,31 @@ fn hold_right(nodecount: u8, window: u16, node: usize, hold: Hold) -> bool
     }
 }
 
-fn holds_right(nodecount: u8, window: u16, holds: [Hold; Plan::NODES]) -> bool
-    ensures { λ r. ⌜ r ≡ holdsRight nodecount window holds ⌝ }
+fn cause_right(normal: bool, nodecount: u8, node: usize, held: bool, cause: u8) -> bool
+    ensures { λ r. ⌜ r ≡ causeRight normal nodecount node held cause ⌝ }
+{
+    if normal & (node < (nodecount as usize)) & !held {
+        cause <= Master::WAKE
+    } else {
+        cause == Master::NEW
+    }
+}
+
+// The permissions and their causes, in one loop.
+fn nodes_right(
+    normal: bool,
+    nodecount: u8,
+    window: u16,
+    holds: [Hold; Plan::NODES],
+    causes: [u8; Plan::NODES],
+) -> bool
+    ensures { λ r. ⌜ r ≡ (holdsRight nodecount window holds && causesRight normal nodecount holds causes) ⌝ }
 {
     let mut i: usize = 0;
     while i < Plan::NODES {
         let hold = holds[i];
-        if !hold_right(nodecount, window, i, hold) {
+        let right = hold_right(nodecount, window, i, hold);
+        if !(right & cause_right(normal, nodecount, i, hold.held, causes[i])) {
             return false;
         }
         i += 1;
@@ -76,9 +96,10 @@ impl Master {
         let phase = self.phase;
         let counts = self.counts;
         let holds = self.holds;
+        let causes = self.causes;
         phase_right(state, phase)
             & delay_right(times, state, phase, self.delay)
             & counts_below(counts, Master::NO_COUNT + 1)
-            & holds_right(nodecount, times.window, holds)
+            & nodes_right(is_normal(state), nodecount, times.window, holds, causes)
     }
 }

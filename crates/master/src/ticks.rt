@@ -5,10 +5,12 @@ use crate::Command;
 use crate::Master;
 use crate::Phase;
 use crate::Reply;
+use crate::causes;
 use crate::commands;
 use crate::holds;
 use crate::silent;
 use machine::State;
+use machine::is_normal;
 use plan::Plan;
 use plan::Row;
 use plan::Times;
@@ -18,9 +20,21 @@ impl Master {
     fn aged(mut self, window: u16) -> Master
         ensures { λ r. ⌜ r ≡ aged window self ⌝ }
     {
+        let state = self.state;
+        let normal = is_normal(state);
         let young = self.holds;
-        let older = holds::all_older(window, young);
-        self.holds = older;
+        let old = self.causes;
+        let mut holds = [Master::NO_HOLD; Plan::NODES];
+        let mut causes = [Master::NEW; Plan::NODES];
+        let mut i: usize = 0;
+        while i < Plan::NODES {
+            let hold = young[i];
+            holds[i] = holds::older(window, hold);
+            causes[i] = causes::aged_out(normal, window, hold, old[i]);
+            i += 1;
+        }
+        self.holds = holds;
+        self.causes = causes;
         self.ticks = std::num::wrapping_add_u32(self.ticks, 1);
         self
     }
@@ -31,6 +45,7 @@ impl Master {
         Master {
             state: State::Normal,
             phase: Phase::Open,
+            causes: [Master::NEW; Plan::NODES],
             counts: [Master::NO_COUNT; Row::REQIDS],
             delay: 0,
             ..self
@@ -44,6 +59,7 @@ impl Master {
             state: State::Sleep,
             phase: Phase::Open,
             holds: [Master::NO_HOLD; Plan::NODES],
+            causes: [Master::NEW; Plan::NODES],
             delay: 0,
             ..self
         }

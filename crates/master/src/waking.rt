@@ -37,7 +37,7 @@ impl Master {
     {
         let state = self.state;
         match state {
-            State::Normal => silent(self.let_all_go().call_back()),
+            State::Normal => silent(self.drop_all().call_back()),
             State::Sleep => silent(Master {
                 state: State::Standby,
                 delay: 0,

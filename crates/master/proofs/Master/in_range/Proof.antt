@@ -1,6 +1,4 @@
 -- By what each test ensures. Assumes nothing.
-use mathlib.Core.Path.{ap₂}
-use mathlib.Core.Bool.{_&&_}
 use Rattle.master.specs.Range.{inRange}
 use borrow.Author.Needs.{needs}
 use Rattle.master.proofs.Master.in_range.Statement.{statement}
@@ -18,13 +16,22 @@ add-counts-below c = search needs
 counts-below-requires : tie.Need-counts-below-requires
 counts-below-requires c κs = search needs
 
-holds-right-requires : tie.Need-holds-right-requires
-holds-right-requires c κs = search needs
+is-normal-requires : tie.Need-is-normal-requires
+is-normal-requires c κs = search needs
+
+nodes-right-requires : tie.Need-nodes-right-requires
+nodes-right-requires c κs = search needs
 
 returns : tie.Need-returns
 unfolding inRange
 returns c =
-    ap₂ _&&_ (ap₂ _&&_ (ap₂ _&&_ (c .before .before .before .phase-right .ensures) (c .before .before .delay-right .ensures)) (c .before .counts-below .ensures)) (c .holds-right .ensures)
+    rw (
+      c .nodes-right .ensures,
+      c .before .is-normal .ensures,
+      c .before .before .counts-below .ensures,
+      c .before .before .before .delay-right .ensures,
+      c .before .before .before .before .phase-right .ensures,
+    )
 
 pub in-range-spec : {M : Type 1} → statement M
 in-range-spec =
@@ -34,5 +41,6 @@ in-range-spec =
     delay-right-requires
     add-counts-below
     counts-below-requires
-    holds-right-requires
+    is-normal-requires
+    nodes-right-requires
     returns)

@@ -5,8 +5,8 @@ use Rattle.master.proofs.Master.wake_up.Tie as tie
 enum-told : tie.Need-enum-told
 enum-told c = search needs
 
-let-all-go-requires : tie.Need-let-all-go-requires
-let-all-go-requires c κs = search needs
+drop-all-requires : tie.Need-drop-all-requires
+drop-all-requires c κs = search needs
 
 call-back-requires : tie.Need-call-back-requires
 call-back-requires c κs = search needs
@@ -31,7 +31,7 @@ returns c =
     rw (
       c .silent .ensures,
       c .before .call-back .ensures,
-      c .before .before .let-all-go .ensures,
+      c .before .before .drop-all .ensures,
       c .before .before .before .enum-told .given .1,
     )
 
@@ -39,7 +39,7 @@ returns-2 : tie.Need-returns-2
 returns-2 c =
     rw (
       c .silent2 .ensures,
-      c .before .before .before .enum-told2 .given .1,
+      c .before .before .before .before .enum-told2 .given .1,
     )
 
 returns-3 : tie.Need-returns-3
@@ -54,7 +54,7 @@ wake-up-spec =
     tie.close
     (tie.spec
     enum-told
-    let-all-go-requires
+    drop-all-requires
     call-back-requires
     silent-requires
     enum-told-2
