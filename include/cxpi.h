@@ -137,7 +137,7 @@ uint32_t cxpi_write(const uint8_t *plan, size_t plan_length, uint8_t *set, size_
 #define CXPI_CLOSING 3   /* it was sent, the clock is about to stop */
 
 /* A master's state. A state is in range where each field is within its limit, by the plan's N and times. */
-#define CXPI_MASTER_LENGTH 185
+#define CXPI_MASTER_LENGTH 201
 #define CXPI_MASTER_STATE_AT 0      /* CXPI_NORMAL, CXPI_STANDBY or CXPI_SLEEP; the clock is on exactly in Normal */
 #define CXPI_MASTER_PHASE_AT 1      /* CXPI_OPEN, CXPI_SENDING, CXPI_WITHDRAWN or CXPI_CLOSING; CXPI_OPEN outside Normal */
 #define CXPI_MASTER_PERMISSION_AT 2 /* its own permission to sleep: 0 or 1 */
@@ -145,7 +145,15 @@ uint32_t cxpi_write(const uint8_t *plan, size_t plan_length, uint8_t *set, size_
 #define CXPI_MASTER_TICKS_AT 5      /* four bytes: tick number, any; it returns to 0 after 4,294,967,295 */
 #define CXPI_MASTER_HOLDS_AT 9      /* CXPI_MOST_NODES permissions, by node number */
 #define CXPI_MASTER_COUNTS_AT 57    /* CXPI_REQIDS bytes: last sequence count of each ReqId, 0 to 3, or CXPI_NO_COUNT */
+#define CXPI_MASTER_CAUSES_AT 185   /* CXPI_MOST_NODES bytes: the cause of each node, 0 to 4 */
 #define CXPI_NO_COUNT 4
+
+/* Why a node's permission is not held: the last of these in Normal. 0 also for a held node, outside Normal and from N on. */
+#define CXPI_CAUSE_NEW 0     /* no answer since Normal */
+#define CXPI_CAUSE_REFUSED 1 /* an answer without permission */
+#define CXPI_CAUSE_AGED 2    /* no answer within W */
+#define CXPI_CAUSE_DAMAGED 3 /* an answer damaged or of a wrong length */
+#define CXPI_CAUSE_WAKE 4    /* a wake-up let it go, or its answer carried one */
 
 /* A node's permission as the master has it. */
 #define CXPI_HOLD_LENGTH 3

@@ -65,7 +65,7 @@ module _ (r : MasterReply.Reply) (m : Master) (plain : MasterRefusals.Plain m r)
   master-left = go (changesState (r .refusal)) refl
     where
       go : (b : Bool) → changesState (r .refusal) ≡ b → masterLeaves r (masterBytes m) ≡ masterBytes (r .master)
-      go true e = rw e (over (masterBytes m) (masterBytes (r .master)) (MasterTrips.packed-long (r .master) (k .holds) (k .counts) ∙ sym (MasterTrips.packed-long m (h .holds) (h .counts))))
+      go true e = rw e (over (masterBytes m) (masterBytes (r .master)) (MasterTrips.packed-long (r .master) (k .holds) (k .counts) (k .causes) ∙ sym (MasterTrips.packed-long m (h .holds) (h .counts) (h .causes))))
       go false e = rw e (ap masterBytes (sym (plain .same (is-not (r .refusal) 0 e refl) (is-not (r .refusal) 13 e refl) (is-not (r .refusal) 14 e refl))))
 
 module _ (r : NodeReply.Reply) (n : Node) (plain : NodeRefusals.Plain n r) (h : length (n .counts) ≡ 128) (k : length (r .node .counts) ≡ 128) where
@@ -87,7 +87,7 @@ module _ (plan : List ℕ) (room : ℕ) where
       go true e =
           let q = MasterRefusals.refused-plain m (recordOf plan) (MasterEvents.eventOf event) in
           let k = MasterPlaces.places-kept m h (recordOf plan) (MasterEvents.eventOf event) in
-          rw (e, le-ltb room 3 l, MasterTrips.packed-back m (h .holds) (h .counts)) (master-left _ m (rw e at q) h (rw e at k))
+          rw (e, le-ltb room 3 l, MasterTrips.packed-back m (h .holds) (h .counts) (h .causes)) (master-left _ m (rw e at q) h (rw e at k))
       go false e = rw (e, other-number (planRefusal (recordOf plan)) (eqb-false (planRefusal (recordOf plan)) 0 e) (at-most-8 (recordOf plan)))
 
   pub node-call : 4 ≤ room → (me : ℕ) (n : Node) → length (n .counts) ≡ 128 → (event : List ℕ)
@@ -121,7 +121,7 @@ module _ (plan : List ℕ) (room : ℕ) where
   -- so calls from power-on are the machine's run
   pub master-calls : 3 ≤ room → (events : List (List ℕ))
       → masterCalls plan room (masterBytes MasterChanges.powerOn) events ≡ masterBytes (masterRun (recordOf plan) MasterChanges.powerOn (map MasterEvents.eventOf events))
-  master-calls l events = master-chain l events MasterChanges.powerOn (record { holds = refl; counts = refl })
+  master-calls l events = master-chain l events MasterChanges.powerOn (record { holds = refl; causes = refl; counts = refl })
 
   pub node-calls : 4 ≤ room → (me : ℕ) (events : List (List ℕ))
       → nodeCalls plan me room (nodeBytes NodeChanges.powerOn) events ≡ nodeBytes (nodeRun (recordOf plan) me NodeChanges.powerOn (map NodeEvents.eventOf events))

@@ -12,18 +12,18 @@ use borrow.Author.Tests.{eq-eqb, ne-eqb, ltb-true, eqb-true}
 use Rattle.folds.specs.Fold.{tab}
 use Rattle.folds.proofs.AllAny.{halves, all-at, all-intro}
 use Rattle.folds.proofs.Stores.{sets-append}
-use Rattle.folds.proofs.Tables.{tab-of, getD-tab, length-tab}
+use Rattle.folds.proofs.Tables.{tab-of, getD-tab, length-tab, tab-ext}
 use Rattle.blocks.specs.Bytes.{byte, highByte, lowByte, tableAt}
 use Rattle.blocks.proofs.Halves.{from-halves, high-at, low-at, long-high-at, long-low-at, from-quarters}
-use Rattle.blocks.proofs.Parts.{head-and-table}
+use Rattle.blocks.proofs.Parts.{head-and-rest}
 use Rattle.machine.specs.declared.State.{State}
 use Rattle.machine.specs.Bytes.{stateByte, stateOf, flagOf}
 use Rattle.machine.proofs.ByteTrips.{state-back, state-byte-back, state-byte-low, flag-back, flag-byte-back, flag-byte-low}
 use Rattle.master.specs.declared.Phase.{Phase}
 use Rattle.master.specs.declared.Hold.{Hold}
 use Rattle.master.specs.declared.Master.{Master}
-use Rattle.master.specs.Changes.{noHold, noCounts, powerOn}
-use Rattle.master_bytes.specs.States.{phaseByte, phaseOf, masterHead, holdBytes, holdByteAt, holdsBytes, holdOf, holdsOf, masterBytes, flagAt, isMaster, masterFrom, masterOf}
+use Rattle.master.specs.Changes.{noHold, noCauses, noCounts, powerOn}
+use Rattle.master_bytes.specs.States.{phaseByte, phaseOf, masterHead, holdBytes, holdByteAt, holdsBytes, holdOf, holdsOf, causeOf, causesOf, masterBytes, flagAt, isMaster, masterFrom, masterOf}
 use Rattle.master_bytes.proofs.Permissions.{hold-three}
 
 phase-back : (x : Phase) → phaseOf (phaseByte x) ≡ x
@@ -39,32 +39,43 @@ phase-byte-back (suc (suc zero)) h = refl
 phase-byte-back (suc (suc (suc zero))) h = refl
 phase-byte-back (suc (suc (suc (suc b)))) h = absurd (omega arith)
 
-pub other-length : (s : List ℕ) → (length s ≡ 185 → ⊥) → isMaster s ≡ false
+pub other-length : (s : List ℕ) → (length s ≡ 201 → ⊥) → isMaster s ≡ false
 unfolding isMaster
-other-length s n = rw (ne-eqb (length s) 185 n)
+other-length s n = rw (ne-eqb (length s) 201 n)
 
 -- the bytes before the counts
 front-long : (m : Master) → length (masterHead m ++ holdsBytes (m .holds)) ≡ 57
 unfolding holdsBytes
 front-long m = length-append (masterHead m) (holdsBytes (m .holds)) ∙ rw (length-tab 48 (holdByteAt (m .holds)))
 
-pub master-put : (m : Master) (buffer head permissions x y z : List ℕ) → head ≡ masterHead m → permissions ≡ holdsBytes (m .holds)
-    → x ≡ sets buffer 0 head → y ≡ sets x 9 permissions → z ≡ sets y 57 (m .counts) → z ≡ sets buffer 0 (masterBytes m)
+-- the bytes before the causes
+counts-end : (m : Master) → length (m .counts) ≡ 128 → length (masterHead m ++ holdsBytes (m .holds) ++ m .counts) ≡ 185
+counts-end m e = length-append (masterHead m ++ holdsBytes (m .holds)) (m .counts) ∙ rw (front-long m, e)
+
+pub master-put : (m : Master) → length (m .counts) ≡ 128 → (buffer head permissions x y z w : List ℕ) → head ≡ masterHead m → permissions ≡ holdsBytes (m .holds)
+    → x ≡ sets buffer 0 head → y ≡ sets x 9 permissions → z ≡ sets y 57 (m .counts) → w ≡ sets z 185 (m .causes) → w ≡ sets buffer 0 (masterBytes m)
 unfolding masterBytes
-master-put m buffer head permissions x y z h p e f g =
+master-put m long buffer head permissions x y z w h p e f g k =
     let u : 0 + length (masterHead m ++ holdsBytes (m .holds)) ≡ 57 = omega (arith, front-long m) in
+    let v : 0 + length (masterHead m ++ holdsBytes (m .holds) ++ m .counts) ≡ 185 = omega (arith, counts-end m long) in
+    let counts : z ≡ sets buffer 0 (masterHead m ++ holdsBytes (m .holds) ++ m .counts) =
     g ∙ rw (f, e, h, p, sets-append (masterHead m) (holdsBytes (m .holds)) buffer 0, ← u) (sets-append (masterHead m ++ holdsBytes (m .holds)) (m .counts) buffer 0)
+    in
+    k ∙ rw (counts, ← v) (sets-append (masterHead m ++ holdsBytes (m .holds) ++ m .counts) (m .causes) buffer 0)
 
--- power-on: the front and the counts as they are
-pub power-on-put : (buffer x y : List ℕ) (state : ℕ) → state ≡ stateByte State.Sleep → x ≡ sets buffer 0 (set (replicate 57 0) 0 state) → y ≡ sets x 57 noCounts
-    → y ≡ sets buffer 0 (masterBytes powerOn)
+-- power-on: the front, the counts and the causes as they are
+pub power-on-put : (buffer x y z : List ℕ) (state : ℕ) → state ≡ stateByte State.Sleep → x ≡ sets buffer 0 (set (replicate 57 0) 0 state) → y ≡ sets x 57 noCounts
+    → z ≡ sets y 185 noCauses → z ≡ sets buffer 0 (masterBytes powerOn)
 unfolding masterBytes holdsBytes tab
-power-on-put buffer x y state h e f = f ∙ rw (e, h) (sets-append (set (replicate 57 0) 0 2) noCounts buffer 0)
+power-on-put buffer x y z state h e f g =
+    g ∙ rw (f, e, h, sets-append (set (replicate 57 0) 0 2) noCounts buffer 0) (sets-append (set (replicate 57 0) 0 2 ++ noCounts) noCauses buffer 0)
 
-module _ (m : Master) (holds-long : length (m .holds) ≡ 16) (counts-long : length (m .counts) ≡ 128) where
+module _ (m : Master) (holds-long : length (m .holds) ≡ 16) (counts-long : length (m .counts) ≡ 128) (causes-long : length (m .causes) ≡ 16) where
   front-byte : (o : ℕ) → o < 57 → byte (masterBytes m) o ≡ getD (masterHead m ++ holdsBytes (m .holds)) o 0
   unfolding masterBytes
-  front-byte o h = List·getD-append (masterHead m ++ holdsBytes (m .holds)) (m .counts) 0 o (omega (arith, front-long m))
+  front-byte o h =
+      List·getD-append (masterHead m ++ holdsBytes (m .holds) ++ m .counts) (m .causes) 0 o (omega (arith, counts-end m counts-long))
+      ∙ List·getD-append (masterHead m ++ holdsBytes (m .holds)) (m .counts) 0 o (omega (arith, front-long m))
 
   head-byte : (o : ℕ) → o < 9 → byte (masterBytes m) o ≡ getD (masterHead m) o 0
   head-byte o h = front-byte o (omega arith) ∙ List·getD-append (masterHead m) (holdsBytes (m .holds)) 0 o h
@@ -85,12 +96,22 @@ module _ (m : Master) (holds-long : length (m .holds) ≡ 16) (counts-long : len
 
   counts-back : tableAt (masterBytes m) 57 ≡ m .counts
   unfolding tableAt masterBytes
-  counts-back = sym (tab-of 0 128 (λ i. byte (masterBytes m) (57 + i)) (m .counts) counts-long (λ i h. sym (at i)))
+  counts-back = sym (tab-of 0 128 (λ i. byte (masterBytes m) (57 + i)) (m .counts) counts-long (λ i h. sym (at i h)))
     where
-      at : (i : ℕ) → byte (masterHead m ++ holdsBytes (m .holds) ++ m .counts) (57 + i) ≡ getD (m .counts) i 0
-      at i =
+      at : (i : ℕ) → i < 128 → byte (masterHead m ++ holdsBytes (m .holds) ++ m .counts ++ m .causes) (57 + i) ≡ getD (m .counts) i 0
+      at i h =
           let z : 57 + i ≡ length (masterHead m ++ holdsBytes (m .holds)) + i = omega (arith, front-long m) in
-          rw z (getD-append-add (masterHead m ++ holdsBytes (m .holds)) (m .counts) i 0)
+          List·getD-append (masterHead m ++ holdsBytes (m .holds) ++ m .counts) (m .causes) 0 (57 + i) (omega (arith, counts-end m counts-long))
+          ∙ rw z (getD-append-add (masterHead m ++ holdsBytes (m .holds)) (m .counts) i 0)
+
+  causes-back : causesOf (masterBytes m) ≡ m .causes
+  unfolding causesOf masterBytes
+  causes-back = sym (tab-of 0 16 (causeOf (masterBytes m)) (m .causes) causes-long (λ i h. sym (at i)))
+    where
+      at : (i : ℕ) → byte (masterHead m ++ holdsBytes (m .holds) ++ m .counts ++ m .causes) (185 + i) ≡ getD (m .causes) i 0
+      at i =
+          let z : 185 + i ≡ length (masterHead m ++ holdsBytes (m .holds) ++ m .counts) + i = omega (arith, counts-end m counts-long) in
+          rw z (getD-append-add (masterHead m ++ holdsBytes (m .holds) ++ m .counts) (m .causes) i 0)
 
   -- unpacking what was packed gives the master back
   pub master-back : masterFrom (masterBytes m) ≡ m
@@ -101,6 +122,7 @@ module _ (m : Master) (holds-long : length (m .holds) ≡ 16) (counts-long : len
         phase = (ap phaseOf (head-byte 1 (omega arith)) ∙ phase-back (m .phase)) i;
         permission = (ap flagOf (head-byte 2 (omega arith)) ∙ flag-back (m .permission)) i;
         holds = sym (tab-of noHold 16 (holdOf (masterBytes m)) (m .holds) holds-long (λ k h. sym (hold-back k h))) i;
+        causes = causes-back i;
         counts = counts-back i;
         delay = from-halves (m .delay) _ _ (head-byte 3 (omega arith)) (head-byte 4 (omega arith)) i;
         ticks = from-quarters (m .ticks) _ _ _ _ (head-byte 5 (omega arith)) (head-byte 6 (omega arith)) (head-byte 7 (omega arith)) (head-byte 8 (omega arith)) i;
@@ -112,16 +134,16 @@ module _ (m : Master) (holds-long : length (m .holds) ≡ 16) (counts-long : len
   phase-low Phase.Withdrawn = refl
   phase-low Phase.Closing = refl
 
-  pub packed-long : length (masterBytes m) ≡ 185
+  pub packed-long : length (masterBytes m) ≡ 201
   unfolding masterBytes
-  packed-long = length-append (masterHead m ++ holdsBytes (m .holds)) (m .counts) ∙ rw (front-long m, counts-long)
+  packed-long = length-append (masterHead m ++ holdsBytes (m .holds) ++ m .counts) (m .causes) ∙ rw (counts-end m counts-long, causes-long)
 
   -- and what was packed is a state
   pub packed-is : isMaster (masterBytes m) ≡ true
   unfolding isMaster
   packed-is =
       rw (
-        eq-eqb (length (masterBytes m)) 185 packed-long,
+        eq-eqb (length (masterBytes m)) 201 packed-long,
         head-byte 0 (omega arith),
         head-byte 1 (omega arith),
         head-byte 2 (omega arith),
@@ -134,9 +156,9 @@ module _ (m : Master) (holds-long : length (m .holds) ≡ 16) (counts-long : len
   packed-back = rw packed-is master-back
 
 module _ (s : List ℕ) (is : isMaster s ≡ true) (bytes : (o : ℕ) → byte s o < 256) where
-  size : length s ≡ 185
+  size : length s ≡ 201
   unfolding isMaster
-  size = eqb-true (length s) 185 (search halves depth 6)
+  size = eqb-true (length s) 201 (search halves depth 6)
 
   head-right : (byte s 0 < 3) × (byte s 1 < 4) × (byte s 2 < 2)
   unfolding isMaster
@@ -185,7 +207,17 @@ module _ (s : List ℕ) (is : isMaster s ≡ true) (bytes : (o : ℕ) → byte s
           ∙ ap (λ (x : Hold). getD (holdBytes x) (i % 3) 0) (getD-tab 16 (holdOf s) (i / 3) noHold (omega arith))
           ∙ hold-is (i / 3) (i % 3) (omega arith) (omega arith) ∙ ap (byte s) y
 
+  -- the bytes before the causes
+  counts-are : masterHead (masterFrom s) ++ holdsBytes (holdsOf s) ++ tableAt s 57 ≡ tab 185 (byte s)
+  unfolding tableAt
+  counts-are =
+      ap (λ l. masterHead (masterFrom s) ++ holdsBytes (holdsOf s) ++ l) (tab-ext 128 _ _ (λ i h. sym (same (57 + i) (omega arith))))
+      ∙ head-and-rest (tab 185 (byte s)) (masterHead (masterFrom s) ++ holdsBytes (holdsOf s)) 57 128 (length-tab 185 (byte s)) (front-is ∙ tab-ext 57 _ _ (λ i h. sym (same i (omega arith))))
+    where
+      same : (o : ℕ) → o < 185 → byte (tab 185 (byte s)) o ≡ byte s o
+      same o h = getD-tab 185 (byte s) o 0 h
+
   -- packing what was unpacked gives the bytes back
   pub bytes-back : masterBytes (masterOf s) ≡ s
-  unfolding masterBytes
-  bytes-back = rw is (head-and-table s (masterHead (masterFrom s) ++ holdsBytes (holdsOf s)) 57 size front-is)
+  unfolding masterBytes causesOf
+  bytes-back = rw is (head-and-rest s (masterHead (masterFrom s) ++ holdsBytes (holdsOf s) ++ tableAt s 57) 185 16 size counts-are)

@@ -26,9 +26,13 @@ holdsAt = 9
 abbrev pub countsAt : ℕ
 countsAt = 57
 
+-- sixteen causes of one byte
+abbrev pub causesAt : ℕ
+causesAt = 185
+
 -- the bytes of a state
 abbrev pub masterLength : ℕ
-masterLength = 185
+masterLength = 201
 
 -- the bytes of a reply
 abbrev pub replyLength : ℕ

@@ -12,7 +12,7 @@ use Rattle.master.specs.declared.Phase.{Phase}
 use Rattle.master.specs.declared.Hold.{Hold}
 use Rattle.master.specs.declared.Master.{Master}
 use Rattle.master.specs.Changes.{noHold, powerOn, withDelay}
-use Rattle.master_bytes.specs.Places.{stateAt, phaseAt, permissionAt, delayAt, ticksAt, holdsAt, countsAt, masterLength}
+use Rattle.master_bytes.specs.Places.{stateAt, phaseAt, permissionAt, delayAt, ticksAt, holdsAt, countsAt, causesAt, masterLength}
 
 -- "phase 0 Open, 1 Sending, 2 Withdrawn, 3 Closing"
 abbrev pub phaseByte : Phase → ℕ
@@ -49,9 +49,16 @@ holdOf s k = holdFrom s (holdsAt + 3 * k)
 unfoldable pub holdsOf : List ℕ → List Hold
 holdsOf s = tab maxNodes (holdOf s)
 
--- then the last sequence count of each ReqId
+-- the causes of sixteen nodes
+abbrev pub causeOf : List ℕ → ℕ → ℕ
+causeOf s k = byte s (causesAt + k)
+
+unfoldable pub causesOf : List ℕ → List ℕ
+causesOf s = tab maxNodes (causeOf s)
+
+-- behind the permissions the last sequence count of each ReqId, then the causes
 unfoldable pub masterBytes : Master → List ℕ
-masterBytes m = masterHead m ++ holdsBytes (m .holds) ++ m .counts
+masterBytes m = masterHead m ++ holdsBytes (m .holds) ++ m .counts ++ m .causes
 
 abbrev pub flagAt : List ℕ → ℕ → Bool
 flagAt s k = ltb (byte s (holdsAt + 3 * k)) 2
@@ -62,7 +69,7 @@ isMaster s = eqb (length s) masterLength && ltb (byte s stateAt) 3 && ltb (byte 
 
 abbrev pub masterFrom : List ℕ → Master
 masterFrom s =
-    record { state = stateOf (byte s stateAt); phase = phaseOf (byte s phaseAt); permission = flagOf (byte s permissionAt); holds = holdsOf s; counts = tableAt s countsAt; delay = number s delayAt; ticks = longNumber s ticksAt }
+    record { state = stateOf (byte s stateAt); phase = phaseOf (byte s phaseAt); permission = flagOf (byte s permissionAt); holds = holdsOf s; causes = causesOf s; counts = tableAt s countsAt; delay = number s delayAt; ticks = longNumber s ticksAt }
 
 -- a master out of range under every plan: "a delay below C in Standby, below D in Closing, else 0"
 abbrev pub noMaster : Master

@@ -1,6 +1,6 @@
 // Where the master's state has its fields: the numbers of specs/Places.
 
-pub const LENGTH: usize = 185;
+pub const LENGTH: usize = 201;
 
 pub const REPLY_LENGTH: usize = 3;
 
@@ -17,3 +17,5 @@ pub const TICKS_AT: usize = 5;
 pub const HOLDS_AT: usize = 9;
 
 pub const COUNTS_AT: usize = 57;
+
+pub const CAUSES_AT: usize = 185;

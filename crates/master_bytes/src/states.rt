@@ -5,7 +5,8 @@ ghost use lib.Seq.{sets};
 ghost use Rattle.folds.specs.Fold.{allTo};
 ghost use Rattle.plan.specs.Limits.{maxNodes};
 ghost use Rattle.master.specs.Changes.{powerOn};
-ghost use Rattle.master_bytes.specs.States.{phaseByte, phaseOf, masterHead, holdsBytes, holdOf, holdsOf, masterBytes, flagAt, isMaster, masterFrom, noMaster, masterOf};
+ghost use Rattle.master_bytes.specs.States.{phaseByte, phaseOf, masterHead, holdsBytes, holdOf, holdsOf, causesOf, masterBytes, flagAt, isMaster, masterFrom, noMaster, masterOf};
+use crate::places::CAUSES_AT;
 use crate::places::COUNTS_AT;
 use crate::places::DELAY_AT;
 use crate::places::HOLDS_AT;
@@ -96,11 +97,13 @@ pub fn put_master(buffer: &mut [u8], master: Master)
 {
     let holds = master.holds;
     let counts = master.counts;
+    let causes = master.causes;
     let head = master_head(master);
     let permissions = holds_bytes(holds);
     put(buffer, 0, &head[..]);
     put(buffer, HOLDS_AT, &permissions[..]);
     put(buffer, COUNTS_AT, &counts[..]);
+    put(buffer, CAUSES_AT, &causes[..]);
 }
 
 // Puts the state at power-on at the front of a buffer: constants, which the compiler stores without reckoning them from a master.
@@ -110,8 +113,10 @@ pub fn put_power_on(buffer: &mut [u8])
     let mut front = [0; COUNTS_AT];
     front[STATE_AT] = state_byte(State::Sleep);
     let counts = [Master::NO_COUNT; Row::REQIDS];
+    let causes = [Master::NEW; Plan::NODES];
     put(buffer, 0, &front[..]);
     put(buffer, COUNTS_AT, &counts[..]);
+    put(buffer, CAUSES_AT, &causes[..]);
 }
 
 // Whether each permission has a flag. No exit, so that the loop is compiled to straight code.
@@ -161,18 +166,32 @@ fn holds_of(bytes: &[u8]) -> [Hold; Plan::NODES]
     holds
 }
 
+fn causes_of(bytes: &[u8]) -> [u8; Plan::NODES]
+    ensures { λ r. ⌜ r ≡ causesOf (now (bytes .entry)) ⌝ }
+{
+    let mut causes = [Master::NEW; Plan::NODES];
+    let mut k: usize = 0;
+    while k < Plan::NODES {
+        causes[k] = byte_at(bytes, CAUSES_AT + k);
+        k += 1;
+    }
+    causes
+}
+
 fn master_from(bytes: &[u8]) -> Master
     ensures { λ r. ⌜ r ≡ masterFrom (now (bytes .entry)) ⌝ }
 {
     let state = state_of(byte_at(bytes, STATE_AT));
     let phase = phase_of(byte_at(bytes, PHASE_AT));
     let holds = holds_of(bytes);
+    let causes = causes_of(bytes);
     let counts = table_at(bytes, COUNTS_AT);
     Master {
         state,
         phase,
         permission: byte_at(bytes, PERMISSION_AT) == 1,
         holds,
+        causes,
         counts,
         delay: number_at(bytes, DELAY_AT),
         ticks: long_number(number_at(bytes, TICKS_AT), number_at(bytes, TICKS_AT + 2)),

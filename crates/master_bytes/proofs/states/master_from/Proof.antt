@@ -17,6 +17,9 @@ phase-of-requires c κs = search needs
 holds-of-requires : tie.Need-holds-of-requires
 holds-of-requires c κs = search needs
 
+causes-of-requires : tie.Need-causes-of-requires
+causes-of-requires c κs = search needs
+
 table-at-requires : tie.Need-table-at-requires
 table-at-requires c κs = search needs
 
@@ -47,11 +50,12 @@ returns c =
       c .before .before .before .number-at .ensures,
       c .before .before .before .before .byte-at3 .ensures,
       c .before .before .before .before .before .table-at .ensures,
-      c .before .before .before .before .before .before .holds-of .ensures,
-      c .before .before .before .before .before .before .before .phase-of .ensures,
-      c .before .before .before .before .before .before .before .before .byte-at2 .ensures,
-      c .before .before .before .before .before .before .before .before .before .state-of .ensures,
-      c .before .before .before .before .before .before .before .before .before .before .byte-at .ensures,
+      c .before .before .before .before .before .before .causes-of .ensures,
+      c .before .before .before .before .before .before .before .holds-of .ensures,
+      c .before .before .before .before .before .before .before .before .phase-of .ensures,
+      c .before .before .before .before .before .before .before .before .before .byte-at2 .ensures,
+      c .before .before .before .before .before .before .before .before .before .before .state-of .ensures,
+      c .before .before .before .before .before .before .before .before .before .before .before .byte-at .ensures,
     )
 
 pub master-from-spec : {M : Type 1} → statement M
@@ -63,6 +67,7 @@ master-from-spec =
     byte-at-requires-2
     phase-of-requires
     holds-of-requires
+    causes-of-requires
     table-at-requires
     byte-at-requires-3
     number-at-requires

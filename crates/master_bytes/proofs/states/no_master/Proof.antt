@@ -6,7 +6,7 @@ power-on-requires : tie.Need-power-on-requires
 power-on-requires c κs = search needs
 
 returns : tie.Need-returns
-returns c = rw (c .before .before .power-on .ensures)
+returns c = rw (c .before .before .before .power-on .ensures)
 
 pub no-master-spec : {M : Type 1} → statement M
 no-master-spec = tie.close (tie.spec power-on-requires returns)

@@ -1,4 +1,4 @@
--- The front, then the counts. Assumes nothing.
+-- The front, then the counts, then the causes. Assumes nothing.
 use Rattle.master_bytes.proofs.StateTrips.{power-on-put}
 use borrow.Author.Needs.{needs}
 use Rattle.master_bytes.proofs.states.put_power_on.Statement.{statement}
@@ -22,11 +22,17 @@ slice-aggregate-put-2 c = search needs
 put-requires-2 : tie.Need-put-requires-2
 put-requires-2 c κs = search needs
 
+slice-aggregate-put-3 : tie.Need-slice-aggregate-put-3
+slice-aggregate-put-3 c = search needs
+
+put-requires-3 : tie.Need-put-requires-3
+put-requires-3 c κs = search needs
+
 same-length : tie.Need-same-length
 same-length c = search needs
 
 returns : tie.Need-returns
-returns c = power-on-put _ _ _ _ (c .before .before .before .before .before .before .before .before .before .before .state-byte .ensures) (c .before .before .before .before .before .before .before .put .ensures) (c .before .before .put2 .ensures)
+returns c = power-on-put _ _ _ _ _ (c .before .before .before .before .before .before .before .before .before .before .before .before .before .before .before .state-byte .ensures) (c .before .before .before .before .before .before .before .before .before .before .before .before .put .ensures) (c .before .before .before .before .before .before .before .put2 .ensures) (c .before .before .put3 .ensures)
 
 pub put-power-on-spec : {M : Type 1} → statement M
 put-power-on-spec =
@@ -38,5 +44,7 @@ put-power-on-spec =
     put-requires
     slice-aggregate-put-2
     put-requires-2
+    slice-aggregate-put-3
+    put-requires-3
     same-length
     returns)
