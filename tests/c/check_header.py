@@ -3,7 +3,7 @@
 Usage: check_header.py, at the repository's root.
 
 Of the header: each `#define CXPI_NAME NUMBER`, and the numbers in its comment, which are a field's limits or an event's length.
-Of LAYOUTS.md: the tables with a column 'In cxpi.h', by their first column: an offset ('5-8'), a length ('185 in all') or a number, or
+Of LAYOUTS.md: the tables with a column 'In cxpi.h', by their first column: an offset ('5-8'), a length ('201 in all') or a number, or
 several, one for each name. Of specs/: the definitions that a table names; one that is a number must be its row's first."""
 import re
 import sys

@@ -445,6 +445,11 @@ static void random_master(const reference_plan *plan, uint8_t *state, uint32_t b
     for (size_t reqid = 0; reqid < REFERENCE_REQIDS; reqid++) {
         state[57 + reqid] = (uint8_t)below(5);
     }
+    for (size_t number = 0; number < REFERENCE_NODES; number++) {
+        bool may_have_one = state[0] == CXPI_NORMAL && number < plan->node_count && !state[9 + 3 * number];
+        uint32_t most = may_have_one ? REFERENCE_CAUSE_WAKE : REFERENCE_CAUSE_NEW;
+        state[185 + number] = (uint8_t)(below(32) == 0 ? most + beyond : below(most + 1));
+    }
 }
 
 static void random_node(const reference_plan *plan, uint8_t *state, uint32_t beyond) {

@@ -572,7 +572,8 @@ static void node_refuses(const char *what, uint8_t number, const edit *before, c
 
 /* Offsets of the packed states, as in include/cxpi.h */
 
-enum { M_STATE, M_PHASE, M_OWN, M_DELAY = 4, M_TICK = 8, M_HELD_0, M_AGE_0 = 11, M_HELD_1, M_AGE_1 = 14, M_HELD_2, M_COUNTS = 57 };
+enum { M_STATE, M_PHASE, M_OWN, M_DELAY = 4, M_TICK = 8, M_HELD_0, M_AGE_0 = 11, M_HELD_1, M_AGE_1 = 14, M_HELD_2, M_COUNTS = 57,
+       M_CAUSE_0 = 185, M_CAUSE_1 };
 
 enum { N_STATE, N_PERMISSION, N_ERROR, N_WAKE, N_HEARD, N_CALLER, N_QUIET = 7, N_RUNS, N_DELAY = 10, N_STANDBY = 14, N_COUNTS };
 
@@ -593,9 +594,11 @@ static void test_master_tick(void) {
     master_does("ages go up", EDITS({M_HELD_0, 1}, {M_HELD_1, 1}, {M_AGE_1, 9}), TICK, EDITS({M_TICK, 1}, {M_AGE_0, 1}, {M_AGE_1, 10}),
                 0, 0);
     master_does("an age above W is let go, no call-back", EDITS({M_PHASE, 1}, {M_HELD_0, 1}, {M_AGE_0, 10}), TICK,
-                EDITS({M_TICK, 1}, {M_HELD_0, 0}, {M_AGE_0, 0}), 0, 0);
+                EDITS({M_TICK, 1}, {M_HELD_0, 0}, {M_AGE_0, 0}, {M_CAUSE_0, 2}), 0, 0);
     master_does("held ages also outside Normal", EDITS({M_STATE, 2}, {M_HELD_0, 1}, {M_AGE_0, 3}), TICK,
                 EDITS({M_TICK, 1}, {M_AGE_0, 4}), 0, 0);
+    master_does("and have no cause there", EDITS({M_STATE, 2}, {M_HELD_0, 1}, {M_AGE_0, 10}), TICK,
+                EDITS({M_TICK, 1}, {M_HELD_0, 0}, {M_AGE_0, 0}), 0, 0);
     master_does("Standby, first tick", EDITS({M_STATE, 1}), TICK, EDITS({M_TICK, 1}, {M_DELAY, 1}), 0, 0);
     master_does("Standby, tick C",
                 EDITS({M_STATE, 1}, {M_DELAY, 1}, {M_COUNTS, 0}, {M_COUNTS + 16, 3}, {M_COUNTS + 127, 1}, {M_HELD_1, 1}), TICK,
@@ -604,6 +607,8 @@ static void test_master_tick(void) {
     master_does("Closing, first tick", EDITS({M_PHASE, 3}, {M_HELD_0, 1}), TICK, EDITS({M_TICK, 1}, {M_DELAY, 1}, {M_AGE_0, 1}), 0, 0);
     master_does("Closing, tick D", EDITS({M_PHASE, 3}, {M_DELAY, 1}, {M_HELD_0, 1}, {M_AGE_0, 3}, {M_HELD_1, 1}, {M_COUNTS + 16, 2}),
                 TICK, EDITS({M_STATE, 2}, {M_PHASE, 0}, {M_DELAY, 0}, {M_TICK, 1}, {M_HELD_0, 0}, {M_AGE_0, 0}, {M_HELD_1, 0}), 2, 0);
+    master_does("Closing, tick D: no causes", EDITS({M_PHASE, 3}, {M_DELAY, 1}, {M_HELD_0, 1}, {M_AGE_0, 10}, {M_CAUSE_1, 3}), TICK,
+                EDITS({M_STATE, 2}, {M_PHASE, 0}, {M_DELAY, 0}, {M_TICK, 1}, {M_HELD_0, 0}, {M_AGE_0, 0}, {M_CAUSE_1, 0}), 2, 0);
     end_group("master: tick");
 }
 
@@ -619,18 +624,29 @@ static void test_master_answer(void) {
     master_does("last 0, count 2", EDITS({M_COUNTS + 16, 0}), ANSWER(16, 0, 2, 2, 1, 0), EDITS({M_HELD_0, 1}, {M_COUNTS + 16, 2}), 0,
                 1);
     master_does("edge 10: wake and permission bits both 1", EDITS({M_PHASE, 1}, {M_HELD_0, 1}, {M_AGE_0, 2}, {M_HELD_1, 1}),
-                ANSWER(16, 0, 2, 0, 1, 1), EDITS({M_PHASE, 2}, {M_HELD_0, 0}, {M_AGE_0, 0}, {M_HELD_1, 0}, {M_COUNTS + 16, 0}), 0, 0);
+                ANSWER(16, 0, 2, 0, 1, 1),
+                EDITS({M_PHASE, 2}, {M_HELD_0, 0}, {M_AGE_0, 0}, {M_HELD_1, 0}, {M_COUNTS + 16, 0}, {M_CAUSE_0, 4}, {M_CAUSE_1, 4}), 0,
+                0);
     master_does("edge 11: refusal in Closing", EDITS({M_PHASE, 3}, {M_DELAY, 1}, {M_HELD_0, 1}, {M_AGE_0, 2}, {M_HELD_1, 1}),
-                ANSWER(17, 0, 0, 0, 0, 0), EDITS({M_PHASE, 0}, {M_DELAY, 0}, {M_HELD_1, 0}), 0, 0);
+                ANSWER(17, 0, 0, 0, 0, 0), EDITS({M_PHASE, 0}, {M_DELAY, 0}, {M_HELD_1, 0}, {M_CAUSE_1, 1}), 0, 0);
     master_does("permission does not call back", EDITS({M_PHASE, 3}, {M_DELAY, 1}), ANSWER(17, 0, 0, 0, 1, 0), EDITS({M_HELD_1, 1}), 0,
                 0);
     master_drops("result 1", EDITS({M_PHASE, 1}, {M_HELD_0, 1}, {M_AGE_0, 5}, {M_HELD_1, 1}), ANSWER(16, 1, 2, 0, 1, 1), 13,
-                 EDITS({M_PHASE, 2}, {M_HELD_0, 0}, {M_AGE_0, 0}));
-    master_drops("result 256", EDITS({M_HELD_0, 1}), BYTES(1, 16, 1, 0, 0, 2, 0, 1, 0), 13, EDITS({M_HELD_0, 0}));
+                 EDITS({M_PHASE, 2}, {M_HELD_0, 0}, {M_AGE_0, 0}, {M_CAUSE_0, 3}));
+    master_drops("result 256", EDITS({M_HELD_0, 1}), BYTES(1, 16, 1, 0, 0, 2, 0, 1, 0), 13, EDITS({M_HELD_0, 0}, {M_CAUSE_0, 3}));
     master_drops("length 3", EDITS({M_PHASE, 3}, {M_DELAY, 1}, {M_HELD_0, 1}), ANSWER(16, 0, 3, 0, 1, 0), 14,
-                 EDITS({M_PHASE, 0}, {M_DELAY, 0}, {M_HELD_0, 0}));
-    master_drops("length 258", EDITS({M_HELD_0, 1}), BYTES(1, 16, 0, 0, 1, 2, 0, 1, 0), 14, EDITS({M_HELD_0, 0}));
-    master_drops("13 before 14", NONE, ANSWER(16, 1, 3, 0, 1, 0), 13, NONE);
+                 EDITS({M_PHASE, 0}, {M_DELAY, 0}, {M_HELD_0, 0}, {M_CAUSE_0, 3}));
+    master_drops("length 258", EDITS({M_HELD_0, 1}), BYTES(1, 16, 0, 0, 1, 2, 0, 1, 0), 14,
+                 EDITS({M_HELD_0, 0}, {M_CAUSE_0, 3}));
+    master_drops("13 before 14", NONE, ANSWER(16, 1, 3, 0, 1, 0), 13, EDITS({M_CAUSE_0, 3}));
+    for (uint8_t before = 0; before <= 4; before++) {
+        const edit *other = EDITS({M_CAUSE_0, 3}, {M_CAUSE_1, before});
+        master_does("held: no cause", other, ANSWER(17, 0, 0, 0, 1, 0), EDITS({M_HELD_1, 1}, {M_CAUSE_1, 0}), 0, 0);
+        master_does("refused", other, ANSWER(17, 0, 0, 0, 0, 0), EDITS({M_CAUSE_1, 1}), 0, 0);
+        master_drops("damaged", other, ANSWER(17, 1, 0, 0, 1, 0), 13, EDITS({M_CAUSE_1, 3}));
+        master_drops("wrong length", other, ANSWER(17, 0, 1, 0, 0, 0), 14, EDITS({M_CAUSE_1, 3}));
+        master_does("wake bit: the other was not held", other, ANSWER(17, 0, 0, 0, 0, 1), EDITS({M_CAUSE_1, 4}), 0, 0);
+    }
     master_refuses("a master's row", EDITS({M_HELD_0, 1}), ANSWER(32, 1, 9, 0, 1, 0), 12);
     master_refuses("ReqId not in the plan", EDITS({M_PHASE, 1}), ANSWER(18, 1, 9, 0, 1, 0), 12);
     master_refuses("ReqId 0", NONE, ANSWER(0, 0, 0, 0, 1, 0), 12);
@@ -684,9 +700,12 @@ static void test_master_others(void) {
         master_does("wake-up in Sleep", EDITS({M_STATE, 2}, {M_HELD_0, 1}), BYTES(kind), EDITS({M_STATE, 1}), 0, 0);
         master_does("wake-up in Standby", EDITS({M_STATE, 1}, {M_DELAY, 1}, {M_HELD_0, 1}), BYTES(kind), NONE, 0, 0);
         master_does("wake-up in Sending", EDITS({M_PHASE, 1}, {M_HELD_0, 1}, {M_AGE_0, 4}), BYTES(kind),
-                    EDITS({M_PHASE, 2}, {M_HELD_0, 0}, {M_AGE_0, 0}), 0, 0);
+                    EDITS({M_PHASE, 2}, {M_HELD_0, 0}, {M_AGE_0, 0}, {M_CAUSE_0, 4}), 0, 0);
         master_does("wake-up in Closing", EDITS({M_PHASE, 3}, {M_DELAY, 1}), BYTES(kind), EDITS({M_PHASE, 0}, {M_DELAY, 0}), 0, 0);
-        master_does("wake-up in Withdrawn", EDITS({M_PHASE, 2}, {M_HELD_1, 1}), BYTES(kind), EDITS({M_HELD_1, 0}), 0, 0);
+        master_does("wake-up in Withdrawn", EDITS({M_PHASE, 2}, {M_HELD_1, 1}), BYTES(kind), EDITS({M_HELD_1, 0}, {M_CAUSE_1, 4}), 0,
+                    0);
+        master_does("wake-up over a node not held", EDITS({M_CAUSE_0, 1}, {M_HELD_1, 1}), BYTES(kind),
+                    EDITS({M_HELD_1, 0}, {M_CAUSE_1, 4}), 0, 0);
     }
     master_does("permission yes", EDITS({M_STATE, 2}), PERMIT(1), EDITS({M_OWN, 1}), 0, 0);
     master_does("permission yes in Sending", EDITS({M_PHASE, 1}), PERMIT(1), EDITS({M_OWN, 1}), 0, 0);
@@ -791,6 +810,11 @@ static void test_master_range(void) {
             master_state_is("age of one held", value <= 10 && node < 2, EDITS({held, 1}, {held + 2, byte}));
             master_state_is("high byte of the age", value == 0 && node < 2, EDITS({held, 1}, {held + 1, byte}));
             master_state_is("held in Sleep", value <= 10 && node < 2, EDITS({M_STATE, 2}, {held, 1}, {held + 2, byte}));
+            size_t cause = M_CAUSE_0 + node;
+            master_state_is("cause", value == 0 || (value <= 4 && node < 2), EDITS({cause, byte}));
+            master_state_is("cause of one held", value == 0 && node < 2, EDITS({held, 1}, {cause, byte}));
+            master_state_is("cause in Standby", value == 0, EDITS({M_STATE, 1}, {cause, byte}));
+            master_state_is("cause in Sleep", value == 0, EDITS({M_STATE, 2}, {cause, byte}));
         }
         for (size_t reqid = 0; reqid < 128; reqid++) {
             master_state_is("last count", value <= 4, EDITS({M_COUNTS + reqid, byte}));

@@ -228,6 +228,10 @@ static bool holds(size_t node, uint8_t held, uint32_t age) {
     return state[at + CXPI_HOLD_HELD_AT] == held && two_at(state, at + CXPI_HOLD_AGE_AT) == age;
 }
 
+static bool has_cause(size_t node, uint8_t cause) {
+    return state[CXPI_MASTER_CAUSES_AT + node] == cause;
+}
+
 static void probe_master_power_on(void) {
     memset(state, PAINT, sizeof state);
     IS(cxpi_master_power_on(state, CXPI_MASTER_LENGTH - 1) == CXPI_BUFFER_SHORT && is_painted(state, 0));
@@ -237,7 +241,11 @@ static void probe_master_power_on(void) {
     for (size_t reqid = 0; reqid < CXPI_REQIDS; reqid++) {
         IS(state[CXPI_MASTER_COUNTS_AT + reqid] == CXPI_NO_COUNT);
     }
-    IS(CXPI_MASTER_COUNTS_AT + CXPI_REQIDS == CXPI_MASTER_LENGTH);
+    for (size_t node = 0; node < CXPI_MOST_NODES; node++) {
+        IS(has_cause(node, CXPI_CAUSE_NEW));
+    }
+    IS(CXPI_MASTER_COUNTS_AT + CXPI_REQIDS == CXPI_MASTER_CAUSES_AT);
+    IS(CXPI_MASTER_CAUSES_AT + CXPI_MOST_NODES == CXPI_MASTER_LENGTH);
 }
 
 static void probe_master_wake_up(void) {
@@ -269,6 +277,22 @@ static void probe_master_answers(void) {
     IS(master_answered(17, 0, 17, 0, 1, 0) == CXPI_DONE && master_answered(16, 0, 2, 3, 1, 1) == CXPI_DONE && holds(1, 0, 0));
 }
 
+/* Each cause of node 1; a number past the last is no state. */
+static void probe_causes(void) {
+    IS(master_answered(17, 0, 17, 0, 0, 0) == CXPI_DONE && has_cause(1, CXPI_CAUSE_REFUSED));
+    IS(master_answered(17, 1, 17, 0, 1, 0) == CXPI_DAMAGED && has_cause(1, CXPI_CAUSE_DAMAGED));
+    IS(master_answered(17, 0, 17, 0, 1, 0) == CXPI_DONE && has_cause(1, CXPI_CAUSE_NEW));
+    for (uint32_t tick = 0; tick <= 10; tick++) {
+        IS(holds(1, 1, tick) && has_cause(1, CXPI_CAUSE_NEW) && master_does(CXPI_MASTER_TICK) == CXPI_DONE);
+    }
+    IS(holds(1, 0, 0) && has_cause(1, CXPI_CAUSE_AGED));
+    IS(master_answered(17, 0, 17, 0, 1, 0) == CXPI_DONE && has_cause(1, CXPI_CAUSE_NEW));
+    IS(master_does(CXPI_MASTER_PULSE) == CXPI_DONE && has_cause(1, CXPI_CAUSE_WAKE));
+    state[CXPI_MASTER_CAUSES_AT + 1] = CXPI_CAUSE_WAKE + 1;
+    IS(master_does(CXPI_MASTER_TICK) == CXPI_NO_STATE);
+    state[CXPI_MASTER_CAUSES_AT + 1] = CXPI_CAUSE_WAKE;
+}
+
 static void probe_master_sleep(void) {
     IS(master_gets(CXPI_MASTER_PERMISSION, 0) == CXPI_DONE && master_does(CXPI_MASTER_SLEEP) == CXPI_NOT_PERMITTED);
     IS(master_gets(CXPI_MASTER_PERMISSION, 1) == CXPI_DONE);
@@ -292,6 +316,7 @@ static void probe_master(void) {
     probe_master_power_on();
     probe_master_wake_up();
     probe_master_answers();
+    probe_causes();
     probe_master_sleep();
     event[0] = CXPI_MASTER_TICK;
     for (size_t room = CXPI_MASTER_REPLY_LENGTH - 1; room <= CXPI_MASTER_REPLY_LENGTH; room++) {

@@ -9,7 +9,7 @@ import tempfile
 
 ALL, NONE = 0xFFFF, 0
 MASTER = 255
-FRAME, NODES_AT, NODE = 2475, 187, 143
+FRAME, NODES_AT, NODE = 2491, 203, 143
 
 
 def move(act, node=0, value=0, fate=0, reached=ALL, hearing=ALL, master=1, result=0, length=0, count=0, permission=0, wake=0):

@@ -87,5 +87,9 @@ fault reference.c '/^static uint32_t node_wake/,/^}/s/ && node->error//'
 fault reference.c '/^static uint32_t node_wake/,/^}/s/node->quiet_count = 0;//'
 fault reference.c '/^static uint32_t node_sleep_message/,/^}/s/node->delay = 0;//'
 fault reference.c '/^static uint32_t master_tick/,/^}/s/memset(master->last_counts.*//'
-fault reference.c '/^static uint32_t master_answer/,/^}/s/let_go(permission);/let_all_go(master);/'
+fault reference.c '/^static uint32_t master_answer/,/^}/s/let_go(master, .*/wake_all(master);/'
+fault reference.c '/^static void wake_all/,/^}/s/if (master->permissions\[number\].held)/if (number < 16)/' # marks a node that was not held
+fault reference.c 's/master->causes\[row->publisher\] = REFERENCE_CAUSE_NEW;//' # kept while held
+fault reference.c 's/REFERENCE_CAUSE_AGED : /REFERENCE_CAUSE_WAKE : /'
+fault reference.c '/^static uint32_t master_tick/,/^}/s/forget_causes(master);//'
 echo "$found faults, each found by the comparison"

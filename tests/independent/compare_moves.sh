@@ -22,7 +22,7 @@ replay=$(path_of "$1")
 states=$(path_of "$2")
 plans=${3:-40}
 moves=${4:-50000}
-frame=2475 # bytes: kind, refusal, 185 of the master, 143 of each of sixteen nodes
+frame=2491 # bytes: kind, refusal, 201 of the master, 143 of each of sixteen nodes
 here=$(cd "$(dirname "$0")" && pwd)
 work=$(mktemp -d)
 trap 'rm -rf "$work"' EXIT

@@ -368,6 +368,17 @@ static bool permissions_in_range(const reference_plan *plan, const reference_mas
     return true;
 }
 
+/* "stored as 0 for never answered, a held node, outside Normal and from N on" */
+static bool causes_in_range(const reference_plan *plan, const reference_master *master) {
+    for (size_t number = 0; number < REFERENCE_NODES; number++) {
+        bool may_have_one = master->state == REFERENCE_NORMAL && number < plan->node_count && !master->permissions[number].held;
+        if (master->causes[number] > (may_have_one ? REFERENCE_CAUSE_WAKE : REFERENCE_CAUSE_NEW)) {
+            return false;
+        }
+    }
+    return true;
+}
+
 static bool counts_in_range(const uint8_t *counts, uint8_t limit) {
     for (size_t reqid = 0; reqid < REFERENCE_REQIDS; reqid++) {
         if (counts[reqid] > limit) {
@@ -384,7 +395,7 @@ bool reference_master_in_range(const reference_plan *plan, const reference_maste
     if (master->state != REFERENCE_NORMAL && master->phase != REFERENCE_OPEN) {
         return false;
     }
-    return delay_in_range(plan, master) && permissions_in_range(plan, master) &&
+    return delay_in_range(plan, master) && permissions_in_range(plan, master) && causes_in_range(plan, master) &&
            counts_in_range(master->last_counts, REFERENCE_NO_COUNT);
 }
 
@@ -403,13 +414,23 @@ static void call_back(reference_master *master) {
     }
 }
 
-static void let_go(reference_permission *permission) {
-    permission->held = 0;
-    permission->age = 0;
+static void let_go(reference_master *master, size_t number, uint8_t cause) {
+    master->permissions[number].held = 0;
+    master->permissions[number].age = 0;
+    master->causes[number] = cause;
 }
 
-static void let_all_go(reference_master *master) {
-    memset(master->permissions, 0, sizeof master->permissions);
+/* "A wake-up is the cause for nodes it let go": one that was not held keeps its own. */
+static void wake_all(reference_master *master) {
+    for (size_t number = 0; number < REFERENCE_NODES; number++) {
+        if (master->permissions[number].held) {
+            let_go(master, number, REFERENCE_CAUSE_WAKE);
+        }
+    }
+}
+
+static void forget_causes(reference_master *master) {
+    memset(master->causes, REFERENCE_CAUSE_NEW, sizeof master->causes);
 }
 
 static void age_permissions(const reference_plan *plan, reference_master *master) {
@@ -418,7 +439,7 @@ static void age_permissions(const reference_plan *plan, reference_master *master
         if (permission->held) {
             permission->age++;
             if (permission->age > plan->times.window) {
-                let_go(permission);
+                let_go(master, number, master->state == REFERENCE_NORMAL ? REFERENCE_CAUSE_AGED : REFERENCE_CAUSE_NEW);
             }
         }
     }
@@ -432,13 +453,15 @@ static uint32_t master_tick(const reference_plan *plan, reference_master *master
         if (master->delay >= plan->times.start) {
             enter(master, REFERENCE_NORMAL, REFERENCE_OPEN);
             memset(master->last_counts, REFERENCE_NO_COUNT, sizeof master->last_counts);
+            forget_causes(master);
             reply->command = REFERENCE_CLOCK_ON;
         }
     } else if (master->phase == REFERENCE_CLOSING) {
         master->delay++;
         if (master->delay >= plan->times.stop) {
             enter(master, REFERENCE_SLEEP, REFERENCE_OPEN);
-            let_all_go(master);
+            memset(master->permissions, 0, sizeof master->permissions);
+            forget_causes(master);
             reply->command = REFERENCE_CLOCK_OFF;
         }
     }
@@ -457,9 +480,8 @@ static uint32_t master_answer(const reference_plan *plan, reference_master *mast
     if (row == NULL || row->publisher == REFERENCE_MASTER_PUBLISHER) {
         return 12;
     }
-    reference_permission *permission = &master->permissions[row->publisher];
     if (event->result != 0 || event->length != row->length) {
-        let_go(permission);
+        let_go(master, row->publisher, REFERENCE_CAUSE_DAMAGED);
         call_back(master);
         return event->result != 0 ? 13 : 14;
     }
@@ -467,13 +489,14 @@ static uint32_t master_answer(const reference_plan *plan, reference_master *mast
         reply->lost = store_count(master, event->reqid, event->count);
     }
     if (event->wake) {
-        let_all_go(master);
+        wake_all(master);
+        master->causes[row->publisher] = REFERENCE_CAUSE_WAKE;
         call_back(master);
     } else if (event->permission) {
-        permission->held = 1;
-        permission->age = 0;
+        master->permissions[row->publisher] = (reference_permission){.held = 1, .age = 0};
+        master->causes[row->publisher] = REFERENCE_CAUSE_NEW;
     } else {
-        let_go(permission);
+        let_go(master, row->publisher, REFERENCE_CAUSE_REFUSED);
         call_back(master);
     }
     return 0;
@@ -481,7 +504,7 @@ static uint32_t master_answer(const reference_plan *plan, reference_master *mast
 
 static uint32_t master_wake(reference_master *master) {
     if (master->state == REFERENCE_NORMAL) {
-        let_all_go(master);
+        wake_all(master);
         call_back(master);
     } else if (master->state == REFERENCE_SLEEP) {
         enter(master, REFERENCE_STANDBY, REFERENCE_OPEN);

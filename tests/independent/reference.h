@@ -1,4 +1,4 @@
-/* Document 01 in plain C, written from the document alone: release sets, the master machine and the node machine.
+/* Documents 01 and 02 in plain C, written from the documents alone: release sets, the master machine and the node machine.
  *
  * It serves as the independent check of the product and as the baseline of its speed. Values are as document 01 numbers them; every
  * field is wide enough to hold a wrong value, which is then refused by number. */
@@ -57,6 +57,9 @@ enum { REFERENCE_NORMAL, REFERENCE_STANDBY, REFERENCE_SLEEP };
 
 enum { REFERENCE_OPEN, REFERENCE_SENDING, REFERENCE_WITHDRAWN, REFERENCE_CLOSING };
 
+/* Document 02's causes: why a node's permission is not held. */
+enum { REFERENCE_CAUSE_NEW, REFERENCE_CAUSE_REFUSED, REFERENCE_CAUSE_AGED, REFERENCE_CAUSE_DAMAGED, REFERENCE_CAUSE_WAKE };
+
 typedef struct {
     uint8_t held;
     uint16_t age;
@@ -69,6 +72,7 @@ typedef struct {
     uint16_t delay;
     uint32_t tick_number;
     reference_permission permissions[REFERENCE_NODES];
+    uint8_t causes[REFERENCE_NODES];
     uint8_t last_counts[REFERENCE_REQIDS];
 } reference_master;
 

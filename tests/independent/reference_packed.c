@@ -101,6 +101,7 @@ void reference_pack_master(const reference_master *master, uint8_t *bytes) {
         put_two(bytes + 10 + 3 * number, master->permissions[number].age);
     }
     memcpy(bytes + 57, master->last_counts, sizeof master->last_counts);
+    memcpy(bytes + 185, master->causes, sizeof master->causes);
 }
 
 static void unpack_master(const uint8_t *bytes, reference_master *master) {
@@ -114,6 +115,7 @@ static void unpack_master(const uint8_t *bytes, reference_master *master) {
         master->permissions[number].age = get_two(bytes + 10 + 3 * number);
     }
     memcpy(master->last_counts, bytes + 57, sizeof master->last_counts);
+    memcpy(master->causes, bytes + 185, sizeof master->causes);
 }
 
 uint32_t reference_cxpi_master_power_on(uint8_t *state, size_t state_length) {

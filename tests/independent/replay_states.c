@@ -2,8 +2,8 @@
  *
  *   0        0 a move, 1 no move
  *   1        refusal, 0 for none or no move
- *   2-186    the master, packed
- *   187-2474 the sixteen nodes, packed; those from N on stand at power-on
+ *   2-202    the master, packed
+ *   203-2490 the sixteen nodes, packed; those from N on stand at power-on
  *
  * For a refused set nothing is written.
  *

@@ -1,12 +1,12 @@
 #!/usr/bin/env python3
 """Writes the cases of both machines and what must be printed of each: crates/machine_cases/stdin and stdout.
 
-Run at the repository's root. Each case gives a state, an event and, by hand from document 01, what the step changes. Nothing
+Run at the repository's root. Each case gives a state, an event and, by hand from documents 01 and 02, what the step changes. Nothing
 here calls the product or works a rule out: what is not named as changed stays as given.
 
 Plan 0: two nodes, node 0 polled, node 1 event-triggered; W 10, D 2, S 3, E 4, R 5, P 6, C 2; row 16 of node 0, length 2, with a
 sequence count; row 17 of node 1, length 3, without one; row 18 of the master. Plan 1: the same with all times 1. Plan 2: the same
-with revision 0. Plan 3: node 0 and row 16 alone."""
+with revision 0. Plan 3: node 0 and row 16 alone. Plan 4: sixteen nodes; row 17 and the places of node 1 are node 15's."""
 
 STATES = ["Normal", "Standby", "Sleep"]
 PHASES = ["Open", "Sending", "Withdrawn", "Closing"]
@@ -16,13 +16,14 @@ stdin, stdout = [], []
 
 def case(numbers, printed, shows):
     numbers = [int(n) for n in numbers]
-    stdin.append(" ".join(map(str, numbers + [0] * (20 - len(numbers)))) + " " + shows)
+    stdin.append(" ".join(map(str, numbers + [0] * (22 - len(numbers)))) + " " + shows)
     stdout.append(printed + shows)
 
 
 # The master
 
-POWER_ON = dict(state="Sleep", phase="Open", permits=0, hold0=None, hold1=None, last16=4, last17=4, delay=0, ticks=0)
+POWER_ON = dict(state="Sleep", phase="Open", permits=0, hold0=None, hold1=None, cause0=0, cause1=0,
+                last16=4, last17=4, delay=0, ticks=0)
 STANDBY = dict(POWER_ON, state="Standby")
 OPEN = dict(POWER_ON, state="Normal")
 SENDING = dict(OPEN, phase="Sending")
@@ -30,6 +31,9 @@ WITHDRAWN = dict(OPEN, phase="Withdrawn")
 CLOSING = dict(OPEN, phase="Closing")
 BOTH = dict(hold0=3, hold1=4)
 NONE = dict(hold0=None, hold1=None)
+NEW, REFUSED, AGED, DAMAGED, WAKE = range(5)
+CAUSES = ["", "refused ", "aged ", "damaged ", "wake "]
+WOKEN = dict(NONE, cause0=WAKE, cause1=WAKE)
 TICK, PULSE, WAKE_ASK, SLEEP_ASK = [0], [2], [3], [5]
 
 
@@ -48,16 +52,17 @@ def send_result(sent):
 def master(s, event, shows, command="nothing", refusal=0, node=0, lost=0, plan=0, wrong=None, **changes):
     """A hold is None or its age. `wrong` puts numbers into places of the case, for states that document 01 does not know."""
     held = lambda age: [0, 0] if age is None else [1, age]
-    word = lambda age: "- 0 " if age is None else "held %d " % age
+    word = lambda age, cause: ("- 0 " if age is None else "held %d " % age) + (CAUSES[cause] if cause <= WAKE else "%d " % cause)
     numbers = [0, plan, STATES.index(s["state"]), PHASES.index(s["phase"]), s["permits"]]
     numbers += held(s["hold0"]) + held(s["hold1"]) + [s["last16"], s["last17"], s["delay"], s["ticks"]] + event
+    numbers += [0] * (20 - len(numbers)) + [s["cause0"], s["cause1"]]
     printed_wrong = ""
     if wrong:
         place, value, printed_wrong = wrong
         numbers[place] = value
     r = dict(s, **changes)
     printed = printed_wrong or "%s %s %s%s%s%d %d %d %d " % (
-        r["state"], r["phase"], "permits " * r["permits"], word(r["hold0"]), word(r["hold1"]),
+        r["state"], r["phase"], "permits " * r["permits"], word(r["hold0"], r["cause0"]), word(r["hold1"], r["cause1"]),
         r["last16"], r["last17"], r["delay"], r["ticks"])
     case(numbers, printed + "%s %d %d %d " % (command, refusal, node, lost), shows)
 
@@ -67,9 +72,9 @@ master(POWER_ON, TICK, "tick in Sleep", ticks=1)
 master(dict(OPEN, **BOTH), TICK, "tick in Open: held ages up by one", ticks=1, hold0=4, hold1=5)
 master(SENDING, TICK, "tick in Sending", ticks=1)
 master(WITHDRAWN, TICK, "tick in Withdrawn", ticks=1)
-master(dict(OPEN, hold0=9, hold1=10), TICK, "ages W - 1 and W: W stays, W + 1 is let go", ticks=1, hold0=10, hold1=None)
-master(dict(SENDING, hold0=10, hold1=0), TICK, "ageing out is no call-back", ticks=1, hold0=None, hold1=1)
-master(dict(CLOSING, hold0=10), TICK, "nor in Closing", ticks=1, hold0=None, delay=1)
+master(dict(OPEN, hold0=9, hold1=10), TICK, "ages W - 1 and W: W stays, W + 1 is let go", ticks=1, hold0=10, hold1=None, cause1=AGED)
+master(dict(SENDING, hold0=10, hold1=0), TICK, "ageing out is no call-back", ticks=1, hold0=None, cause0=AGED, hold1=1)
+master(dict(CLOSING, hold0=10), TICK, "nor in Closing", ticks=1, hold0=None, cause0=AGED, delay=1)
 master(dict(POWER_ON, hold0=10, hold1=1), TICK, "outside Normal held ages run too", ticks=1, hold0=None, hold1=2)
 master(dict(OPEN, ticks=LAST - 1), TICK, "tick number to its last value", ticks=LAST)
 master(dict(OPEN, ticks=LAST, hold0=3), TICK, "tick number back to 0, the age goes on", ticks=0, hold0=4)
@@ -81,7 +86,7 @@ master(CLOSING, TICK, "D 2: first tick", ticks=1, delay=1)
 master(dict(CLOSING, delay=1, last16=2, permits=1, **BOTH), TICK, "D 2: at the D-th clock off, all let go, counts stay",
        "clock-off", ticks=1, delay=0, state="Sleep", phase="Open", **NONE)
 master(CLOSING, TICK, "D 1: at the first tick", "clock-off", plan=1, ticks=1, state="Sleep", phase="Open")
-master(dict(OPEN, hold0=1), TICK, "W 1: age 2 is let go", plan=1, ticks=1, hold0=None)
+master(dict(OPEN, hold0=1), TICK, "W 1: age 2 is let go", plan=1, ticks=1, hold0=None, cause0=AGED)
 
 # Answer: 16 outside Normal, then 12, 13, 14
 master(POWER_ON, answer(16, 2, 0, 1), "answer in Sleep", refusal=16)
@@ -91,17 +96,17 @@ master(OPEN, answer(99, 2, 0, 1), "ReqId not in the plan", refusal=12)
 master(OPEN, answer(0, 0), "ReqId 0 is in no plan", refusal=12)
 master(dict(CLOSING, **BOTH), answer(18, 0), "a master's row: nothing is called back", refusal=12)
 master(OPEN, answer(18, 0, result=1), "12 before 13", refusal=12)
-master(dict(OPEN, **BOTH), answer(16, 2, 0, 1, result=1), "damaged: its publisher is let go", refusal=13, hold0=None)
-master(dict(OPEN, **BOTH), answer(16, 9, 0, 1, result=1), "13 before 14", refusal=13, hold0=None)
-master(dict(OPEN, **BOTH), answer(16, 3, 0, 1), "length too long", refusal=14, hold0=None)
-master(dict(OPEN, **BOTH), answer(17, 2, 0, 1), "length too short, of node 1", refusal=14, hold1=None)
-master(dict(OPEN, **BOTH), answer(16, 258, 0, 1), "length 2 + 256", refusal=14, hold0=None)
-master(dict(OPEN, **BOTH), answer(16, 2, 0, 1, result=256), "result 256 is not 0", refusal=13, hold0=None)
-master(dict(OPEN, **BOTH), answer(16, 2, 0, 1, 1, result=1), "damaged with the wake bit: the others stay held", refusal=13, hold0=None)
-master(dict(OPEN, last16=1), answer(16, 2, 3, result=7), "damaged: the count is not stored", refusal=13)
-master(dict(SENDING, **BOTH), answer(16, 2, 0, 1, result=1), "damaged in Sending: Withdrawn", refusal=13, hold0=None, phase="Withdrawn")
-master(dict(WITHDRAWN, **BOTH), answer(16, 2, 0, 1, result=1), "damaged in Withdrawn", refusal=13, hold0=None)
-master(dict(CLOSING, delay=1, **BOTH), answer(17, 9, 0, 1), "damaged in Closing: Open", refusal=14, hold1=None, phase="Open", delay=0)
+master(dict(OPEN, **BOTH), answer(16, 2, 0, 1, result=1), "damaged: its publisher is let go", refusal=13, hold0=None, cause0=DAMAGED)
+master(dict(OPEN, **BOTH), answer(16, 9, 0, 1, result=1), "13 before 14", refusal=13, hold0=None, cause0=DAMAGED)
+master(dict(OPEN, **BOTH), answer(16, 3, 0, 1), "length too long", refusal=14, hold0=None, cause0=DAMAGED)
+master(dict(OPEN, **BOTH), answer(17, 2, 0, 1), "length too short, of node 1", refusal=14, hold1=None, cause1=DAMAGED)
+master(dict(OPEN, **BOTH), answer(16, 258, 0, 1), "length 2 + 256", refusal=14, hold0=None, cause0=DAMAGED)
+master(dict(OPEN, **BOTH), answer(16, 2, 0, 1, result=256), "result 256 is not 0", refusal=13, hold0=None, cause0=DAMAGED)
+master(dict(OPEN, **BOTH), answer(16, 2, 0, 1, 1, result=1), "damaged with the wake bit: the others stay held", refusal=13, hold0=None, cause0=DAMAGED)
+master(dict(OPEN, last16=1), answer(16, 2, 3, result=7), "damaged: the count is not stored", refusal=13, cause0=DAMAGED)
+master(dict(SENDING, **BOTH), answer(16, 2, 0, 1, result=1), "damaged in Sending: Withdrawn", refusal=13, hold0=None, cause0=DAMAGED, phase="Withdrawn")
+master(dict(WITHDRAWN, **BOTH), answer(16, 2, 0, 1, result=1), "damaged in Withdrawn", refusal=13, hold0=None, cause0=DAMAGED)
+master(dict(CLOSING, delay=1, **BOTH), answer(17, 9, 0, 1), "damaged in Closing: Open", refusal=14, hold1=None, cause1=DAMAGED, phase="Open", delay=0)
 
 # Answer taken: count, then wake bit, then permission bit
 master(OPEN, answer(16, 2, 2, 1), "none before: lost 0, held with age 0", last16=2, hold0=0)
@@ -109,26 +114,26 @@ for last, count, lost in [(0, 1, 0), (0, 2, 1), (0, 3, 2), (0, 0, 3), (3, 0, 0),
     master(dict(OPEN, last16=last), answer(16, 2, count, 1), "last %d, count %d" % (last, count), lost=lost, last16=count, hold0=0)
 master(dict(OPEN, last17=1), answer(17, 3, 3, 1), "a row without a count: lost 0, nothing stored", hold1=0)
 master(dict(OPEN, **BOTH), answer(16, 2, 0, 1), "held again: age 0", last16=0, hold0=0)
-master(dict(OPEN, **BOTH), answer(16, 2, 0, 1, 1), "wake and permission bits both 1: nothing held", last16=0, **NONE)
-master(dict(OPEN, last16=0, **BOTH), answer(16, 2, 2, 0, 1), "wake bit: the count is still reported", lost=1, last16=2, **NONE)
-master(dict(OPEN, **BOTH), answer(16, 2, 0), "refusing: its publisher is let go", last16=0, hold0=None)
+master(dict(OPEN, **BOTH), answer(16, 2, 0, 1, 1), "wake and permission bits both 1: nothing held", last16=0, **WOKEN)
+master(dict(OPEN, last16=0, **BOTH), answer(16, 2, 2, 0, 1), "wake bit: the count is still reported", lost=1, last16=2, **WOKEN)
+master(dict(OPEN, **BOTH), answer(16, 2, 0), "refusing: its publisher is let go", last16=0, hold0=None, cause0=REFUSED)
 master(dict(SENDING, **BOTH), answer(16, 2, 0, 1), "held in Sending", last16=0, hold0=0)
 master(dict(CLOSING, delay=1, **BOTH), answer(16, 2, 0, 1), "held in Closing, the delay runs on", last16=0, hold0=0)
-master(dict(SENDING, **BOTH), answer(16, 2, 0), "refusing in Sending: Withdrawn", last16=0, hold0=None, phase="Withdrawn")
-master(dict(CLOSING, delay=1, **BOTH), answer(16, 2, 0), "refusing in Closing: Open", last16=0, hold0=None, phase="Open", delay=0)
-master(dict(WITHDRAWN, **BOTH), answer(16, 2, 0), "refusing in Withdrawn", last16=0, hold0=None)
-master(dict(SENDING, **BOTH), answer(17, 3, 0, 0, 1), "wake bit in Sending: Withdrawn", phase="Withdrawn", **NONE)
-master(dict(CLOSING, delay=1, **BOTH), answer(17, 3, 0, 0, 1), "wake bit in Closing: Open", phase="Open", delay=0, **NONE)
+master(dict(SENDING, **BOTH), answer(16, 2, 0), "refusing in Sending: Withdrawn", last16=0, hold0=None, cause0=REFUSED, phase="Withdrawn")
+master(dict(CLOSING, delay=1, **BOTH), answer(16, 2, 0), "refusing in Closing: Open", last16=0, hold0=None, cause0=REFUSED, phase="Open", delay=0)
+master(dict(WITHDRAWN, **BOTH), answer(16, 2, 0), "refusing in Withdrawn", last16=0, hold0=None, cause0=REFUSED)
+master(dict(SENDING, **BOTH), answer(17, 3, 0, 0, 1), "wake bit in Sending: Withdrawn", phase="Withdrawn", **WOKEN)
+master(dict(CLOSING, delay=1, **BOTH), answer(17, 3, 0, 0, 1), "wake bit in Closing: Open", phase="Open", delay=0, **WOKEN)
 
 # Wake-up pulse, or own ask to wake
 for event, name in [(PULSE, "pulse"), (WAKE_ASK, "own ask to wake")]:
     master(POWER_ON, event, name + " in Sleep: Standby", state="Standby")
     master(dict(POWER_ON, permits=1, hold0=1, ticks=5), event, name + " in Sleep: the rest stays", state="Standby")
     master(dict(STANDBY, delay=1), event, name + " in Standby: nothing")
-    master(dict(OPEN, **BOTH), event, name + " in Open: let all go", **NONE)
-    master(dict(SENDING, **BOTH), event, name + " in Sending: Withdrawn", phase="Withdrawn", **NONE)
-    master(dict(WITHDRAWN, **BOTH), event, name + " in Withdrawn", **NONE)
-    master(dict(CLOSING, delay=1, **BOTH), event, name + " in Closing: Open", phase="Open", delay=0, **NONE)
+    master(dict(OPEN, **BOTH), event, name + " in Open: let all go", **WOKEN)
+    master(dict(SENDING, **BOTH), event, name + " in Sending: Withdrawn", phase="Withdrawn", **WOKEN)
+    master(dict(WITHDRAWN, **BOTH), event, name + " in Withdrawn", **WOKEN)
+    master(dict(CLOSING, delay=1, **BOTH), event, name + " in Closing: Open", phase="Open", delay=0, **WOKEN)
 
 # Own permission, any state
 master(POWER_ON, permission(1), "own yes in Sleep", permits=1)
@@ -167,6 +172,42 @@ master(dict(SENDING, permits=1, **BOTH), send_result(0), "failed: Open", phase="
 master(dict(WITHDRAWN, **BOTH), send_result(1), "sent after a call-back: Open", phase="Open")
 master(dict(WITHDRAWN, **BOTH), send_result(0), "failed after a call-back: Open", phase="Open")
 
+# Causes (document 02, W-205): each after each other, and where they end
+for old in range(5):
+    before, name = dict(OPEN, cause0=old, cause1=DAMAGED), ["none", "refused", "aged", "damaged", "wake"][old]
+    master(before, answer(16, 2, 0), name + ", then refused", last16=0, cause0=REFUSED)
+    master(before, answer(16, 2, 0, 1, result=1), name + ", then damaged", refusal=13, cause0=DAMAGED)
+    master(before, answer(16, 3, 0, 0), name + ", then a wrong length, which is damage", refusal=14, cause0=DAMAGED)
+    master(before, answer(16, 2, 0, 1, 1), name + ", then its own wake bit", last16=0, cause0=WAKE)
+    master(before, answer(16, 2, 0, 1), name + ", then held", last16=0, hold0=0, cause0=NEW)
+    master(before, PULSE, name + ", then a pulse over two nodes not held")
+    master(before, WAKE_ASK, name + ", then an own ask over two nodes not held")
+    master(before, TICK, name + ", then a tick", ticks=1)
+    master(before, answer(17, 3, 0, 0, 1), name + ", then another's wake bit", cause1=WAKE)
+    master(before, answer(99, 2), name + ", then a ReqId not in the plan", refusal=12)
+    master(before, permission(0), name + ", then the own no")
+    master(dict(before, permits=1), SLEEP_ASK, name + ", then a sleep ask", refusal=20)
+    master(dict(before, phase="Sending"), send_result(1), name + ", then sent", phase="Closing")
+    master(dict(before, phase="Closing", delay=1), TICK, name + ", then Sleep", "clock-off", ticks=1, delay=0, state="Sleep", phase="Open",
+           cause0=NEW, cause1=NEW)
+master(dict(OPEN, cause0=REFUSED, hold1=3), PULSE, "a pulse over one held and one not", hold1=None, cause1=WAKE)
+master(dict(OPEN, cause0=REFUSED, hold1=3), answer(16, 2, 0, 0, 1), "the carrier was not held, the other was", last16=0, hold1=None, cause0=WAKE,
+       cause1=WAKE)
+master(dict(OPEN, hold0=9, cause1=WAKE), TICK, "W - 1 is no end of the window", ticks=1, hold0=10)
+master(dict(OPEN, hold0=10, hold1=9), PULSE, "a pulse at the window's end", cause0=WAKE, cause1=WAKE, **NONE)
+master(dict(CLOSING, delay=1, hold0=10), TICK, "aged in the tick that leaves Normal: no cause", "clock-off", ticks=1, delay=0, state="Sleep",
+       phase="Open", hold0=None)
+master(dict(STANDBY, hold0=10), TICK, "aged in Standby: no cause", ticks=1, delay=1, hold0=None)
+master(dict(STANDBY, delay=1, hold0=10), TICK, "aged in the tick that enters Normal: no cause", "clock-on", ticks=1, delay=0, state="Normal",
+       hold0=None)
+LAST_NODE = "node 15 of sixteen: "
+master(dict(OPEN, hold1=10), TICK, LAST_NODE + "aged", plan=4, ticks=1, hold1=None, cause1=AGED)
+master(dict(OPEN, hold1=10, cause0=AGED), PULSE, LAST_NODE + "a pulse", plan=4, hold1=None, cause1=WAKE)
+master(dict(OPEN, cause1=AGED), answer(17, 3, 0, 0), LAST_NODE + "refused", plan=4, cause1=REFUSED)
+master(dict(OPEN, hold0=2), answer(17, 9, 0, 1), LAST_NODE + "a wrong length", refusal=14, plan=4, cause1=DAMAGED)
+master(dict(OPEN, hold0=2), answer(17, 3, 0, 1, 1), LAST_NODE + "its own wake bit", plan=4, hold0=None, cause0=WAKE, cause1=WAKE)
+master(dict(OPEN, cause1=WAKE), answer(17, 3, 0, 1), LAST_NODE + "held", plan=4, hold1=0, cause1=NEW)
+
 # Plan 4 to 8, then 11, 15, 16
 master(OPEN, TICK, "revision 0", refusal=4, plan=2)
 master(dict(OPEN, hold0=11), TICK, "4 before 11", refusal=4, plan=2)
@@ -182,6 +223,16 @@ master(dict(POWER_ON, delay=1), TICK, "a delay in Sleep", refusal=11)
 master(dict(OPEN, delay=1), TICK, "a delay in Open", refusal=11)
 master(dict(SENDING, delay=1), TICK, "a delay in Sending", refusal=11)
 master(dict(OPEN, last17=5), TICK, "last count 5", refusal=11)
+for wrong in range(1, 6):
+    master(dict(OPEN, hold0=0, cause0=wrong), TICK, "cause %d of a held node" % wrong, refusal=11)
+    master(dict(STANDBY, cause1=wrong), TICK, "cause %d in Standby" % wrong, refusal=11)
+    master(dict(POWER_ON, cause0=wrong), PULSE, "cause %d in Sleep" % wrong, refusal=11)
+    master(dict(OPEN, cause1=wrong), TICK, "cause %d from N on" % wrong, refusal=11, plan=3)
+for wrong in [5, 6, 255]:
+    master(dict(OPEN, cause0=wrong), TICK, "cause %d" % wrong, refusal=11)
+    master(dict(OPEN, cause1=wrong), TICK, LAST_NODE + "cause %d" % wrong, refusal=11, plan=4)
+master(dict(OPEN, cause0=5), answer(16, 2, 4), "11 for a cause before 15", refusal=11)
+master(dict(OPEN, cause0=5), TICK, "4 before 11 for a cause", refusal=4, plan=2)
 master(dict(OPEN, hold0=11), answer(16, 2, 4), "11 before 15", refusal=11)
 master(OPEN, answer(16, 2, 4, 1), "count 4", refusal=15)
 master(OPEN, answer(128, 2, 0, 1), "ReqId 128", refusal=15)

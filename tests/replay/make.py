@@ -134,7 +134,7 @@ def packed(machine, sizes):
 
 def frame(kind, refusal, master, nodes):
     """Nothing is held, and no ReqId has been answered."""
-    data = bytes([kind, refusal]) + packed(master, SIZES[0]) + bytes(48) + b"\x04" * 128
+    data = bytes([kind, refusal]) + packed(master, SIZES[0]) + bytes(48) + b"\x04" * 128 + bytes(16)
     return data + b"".join(packed(node, SIZES[1]) + bytes(128) for node in nodes + [NODE] * (16 - len(nodes)))
 
 

@@ -23,7 +23,7 @@ struct Parsed {
 }
 
 struct Case {
-    values: [u64; 20],
+    values: [u64; 22],
     next: usize,
 }
 
@@ -42,10 +42,10 @@ fn number(text: &[u8], start: usize) -> Parsed {
 }
 
 fn case_at(text: &[u8], start: usize) -> Case {
-    let mut values = [0u64; 20];
+    let mut values = [0u64; 22];
     let mut at = start;
     let mut i: usize = 0;
-    while i < 20 {
+    while i < 22 {
         let n = number(text, at);
         values[i] = n.value;
         at = n.next;
@@ -86,8 +86,41 @@ fn state_of(x: u64) -> State {
     }
 }
 
+// Fourteen nodes between the first and the last, each with a row behind those of plan 0; row 17 is the last's.
+fn with_sixteen(mut plan: Plan) -> Plan {
+    let mut nodes = plan.nodes;
+    let mut rows = plan.rows;
+    rows[1] = Row {
+        reqid: 17,
+        publisher: 15,
+        length: 3,
+        kind: 0,
+    };
+    let mut i: u8 = 1;
+    while i < 15 {
+        nodes[(i as usize) + 1] = NodeEntry {
+            address: i + 2,
+            class: 1,
+            method: 0,
+            reserved: 0,
+        };
+        rows[(i as usize) + 2] = Row {
+            reqid: i + 18,
+            publisher: i,
+            length: 0,
+            kind: 0,
+        };
+        i += 1;
+    }
+    plan.nodecount = 16;
+    plan.rowcount = 17;
+    plan.nodes = nodes;
+    plan.rows = rows;
+    plan
+}
+
 // Two nodes, the first polled; a row of each and one of the master. Plan 1 has the shortest times, 2 a wrong revision, 3 one
-// node with its row.
+// node with its row, 4 sixteen nodes.
 fn plan_of(x: u64) -> Plan {
     let mut plan = Plan::zero();
     let mut nodes = plan.nodes;
@@ -149,7 +182,7 @@ fn plan_of(x: u64) -> Plan {
     plan.times = times;
     plan.nodes = nodes;
     plan.rows = rows;
-    plan
+    if x == 4 { with_sixteen(plan) } else { plan }
 }
 
 fn run_case(text: &[u8], start: usize) -> usize {

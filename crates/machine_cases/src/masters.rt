@@ -32,11 +32,20 @@ fn hold_of(held: u64, age: u64) -> Hold {
     }
 }
 
-fn master_of(v: [u64; 20]) -> Master {
+// The second node's places are those of the last of plan 4's.
+fn master_of(v: [u64; 22]) -> Master {
     let start = Master::power_on();
     let mut holds = start.holds;
     holds[0] = hold_of(v[5], v[6]);
-    holds[1] = hold_of(v[7], v[8]);
+    let mut causes = start.causes;
+    causes[0] = narrow(v[20]);
+    if v[1] == 4 {
+        holds[15] = hold_of(v[7], v[8]);
+        causes[15] = narrow(v[21]);
+    } else {
+        holds[1] = hold_of(v[7], v[8]);
+        causes[1] = narrow(v[21]);
+    }
     let mut counts = start.counts;
     counts[16] = narrow(v[9]);
     counts[17] = narrow(v[10]);
@@ -45,13 +54,14 @@ fn master_of(v: [u64; 20]) -> Master {
         phase: phase_of(v[3]),
         permission: v[4] == 1,
         holds,
+        causes,
         counts,
         delay: middle(v[11]),
         ticks: wide(v[12]),
     }
 }
 
-fn event_of(v: [u64; 20]) -> Event {
+fn event_of(v: [u64; 22]) -> Event {
     let kind = v[13];
     match kind {
         0 => Event::Tick,
@@ -99,26 +109,45 @@ fn print_hold(hold: Hold) {
     }
 }
 
-fn print_master(m: Master) {
+fn print_cause(cause: u8) {
+    match cause {
+        Master::NEW => {}
+        Master::REFUSED => print(b"refused "),
+        Master::AGED => print(b"aged "),
+        Master::DAMAGED => print(b"damaged "),
+        Master::WAKE => print(b"wake "),
+        _ => print_number(cause as u64),
+    }
+}
+
+fn print_master(m: Master, plan: u64) {
     let state = m.state;
     let phase = m.phase;
     let holds = m.holds;
+    let causes = m.causes;
     let counts = m.counts;
     print_state(state);
     print_phase(phase);
     print_flag(m.permission, b"permits");
     print_hold(holds[0]);
-    print_hold(holds[1]);
+    print_cause(causes[0]);
+    if plan == 4 {
+        print_hold(holds[15]);
+        print_cause(causes[15]);
+    } else {
+        print_hold(holds[1]);
+        print_cause(causes[1]);
+    }
     print_counts(counts);
     print_number(m.delay as u64);
     print_number(m.ticks as u64);
 }
 
-pub(crate) fn run(v: [u64; 20]) {
+pub(crate) fn run(v: [u64; 22]) {
     let reply = master_of(v).step(plan_of(v[1]), event_of(v));
     let next = reply.master;
     let command = reply.command;
-    print_master(next);
+    print_master(next, v[1]);
     print_command(command);
     print_number(reply.refusal as u64);
     print_number(reply.node as u64);

@@ -22,7 +22,7 @@ fn delay_of(x: u64) -> Delay {
     }
 }
 
-fn node_of(v: [u64; 20]) -> Node {
+fn node_of(v: [u64; 22]) -> Node {
     let start = Node::power_on();
     let mut counts = start.counts;
     counts[16] = narrow(v[11]);
@@ -41,7 +41,7 @@ fn node_of(v: [u64; 20]) -> Node {
     }
 }
 
-fn event_of(v: [u64; 20]) -> Event {
+fn event_of(v: [u64; 22]) -> Event {
     let kind = v[13];
     match kind {
         0 => Event::Tick(v[14] == 1),
@@ -94,7 +94,7 @@ fn print_node(n: Node) {
     print_counts(counts);
 }
 
-pub(crate) fn run(v: [u64; 20]) {
+pub(crate) fn run(v: [u64; 22]) {
     let reply = node_of(v).step(plan_of(v[1]), narrow(v[15]), event_of(v));
     let next = reply.node;
     let command = reply.command;

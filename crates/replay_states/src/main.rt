@@ -3,8 +3,8 @@
 //
 //  0         0 a move, 1 no move
 //  1         refusal, 0 for none or no move
-//  2-186     the master, packed
-//  187-2474  the sixteen nodes, packed
+//  2-202     the master, packed
+//  203-2490  the sixteen nodes, packed
 //
 // For a refused set nothing is written.
 ghost use Prim.Native.Nat.{_≤_};
@@ -33,18 +33,18 @@ fn refusal(is_move: bool, number: u8) -> u8 {
 }
 
 fn put_nodes(frame: &mut [u8], nodes: [Node; 16])
-    requires { ⌜ 2475 ≤ length (now frame) ⌝ }
+    requires { ⌜ 2491 ≤ length (now frame) ⌝ }
 {
     let mut k: usize = 0;
     while k < 16 {
-        let start = 187 + 143 * k;
+        let start = 203 + 143 * k;
         put_node(&mut frame[start..], nodes[k]);
         k += 1;
     }
 }
 
 fn put_frame(frame: &mut [u8], kind: u8, refusal: u8, world: World)
-    requires { ⌜ 2475 ≤ length (now frame) ⌝ }
+    requires { ⌜ 2491 ≤ length (now frame) ⌝ }
 {
     let master = world.master;
     let nodes = world.nodes;
@@ -55,7 +55,7 @@ fn put_frame(frame: &mut [u8], kind: u8, refusal: u8, world: World)
 
 // Reads a record, which only the end of the input cuts short, and writes its frame.
 fn step_on(plan: Plan, world: World, input: &mut [u8], frame: &mut [u8]) -> Turn
-    requires { ⌜ 2475 ≤ length (now frame) ⌝ }
+    requires { ⌜ 2491 ≤ length (now frame) ⌝ }
 {
     let count = io::read_full(STDIN_FILENO, input);
     if count == 0 {
@@ -65,7 +65,7 @@ fn step_on(plan: Plan, world: World, input: &mut [u8], frame: &mut [u8]) -> Turn
     let next = moved.world;
     let right = runs::is_move(&input[..count]);
     put_frame(frame, kind(right), refusal(right, moved.refusal), next);
-    let more = io::write_all(STDOUT_FILENO, &frame[..2475]);
+    let more = io::write_all(STDOUT_FILENO, &frame[..2491]);
     Turn { world: next, more }
 }
 

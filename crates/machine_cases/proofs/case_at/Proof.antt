@@ -8,7 +8,7 @@ abbrev Inv-loop : tie.InvT-loop
 Inv-loop text start values₀ at₀ i₀ values at i = Unit {0}
 
 abbrev μ-loop : tie.MeasureT-loop
-μ-loop text start values₀ at₀ i₀ values at i = 20 - i
+μ-loop text start values₀ at₀ i₀ values at i = 22 - i
 
 loop-holds : tie.Need-loop-holds Inv-loop μ-loop
 loop-holds c = search needs

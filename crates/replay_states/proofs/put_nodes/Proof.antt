@@ -7,7 +7,7 @@ use Rattle.replay_states.proofs.put_nodes.Statement.{statement}
 use Rattle.replay_states.proofs.put_nodes.Tie as tie
 
 abbrev Inv-loop : tie.InvT-loop
-Inv-loop frame₀ nodes k₀ frame k = (k ≤ 16) × (length frame ≡ length frame₀) × (2475 ≤ length frame₀)
+Inv-loop frame₀ nodes k₀ frame k = (k ≤ 16) × (length frame ≡ length frame₀) × (2491 ≤ length frame₀)
 
 abbrev μ-loop : tie.MeasureT-loop
 μ-loop frame₀ nodes k₀ frame k = 16 - k

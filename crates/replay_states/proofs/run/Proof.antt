@@ -6,7 +6,7 @@ use Rattle.replay_states.proofs.run.Statement.{statement}
 use Rattle.replay_states.proofs.run.Tie as tie
 
 abbrev Inv-loop : tie.InvT-loop
-Inv-loop plan input₀ frame₀ world₀ turns₀ input frame world turns = 2475 ≤ length frame
+Inv-loop plan input₀ frame₀ world₀ turns₀ input frame world turns = 2491 ≤ length frame
 
 abbrev μ-loop : tie.MeasureT-loop
 μ-loop plan input₀ frame₀ world₀ turns₀ input frame world turns = turns

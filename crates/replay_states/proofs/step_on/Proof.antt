@@ -44,7 +44,7 @@ slice-reshare-prefix-write-all : tie.Need-slice-reshare-prefix-write-all
 slice-reshare-prefix-write-all c = search needs
 
 slice-aggregate-write-all : tie.Need-slice-aggregate-write-all
-slice-aggregate-write-all c = sym (length-take-le 2475 (c .before .before .before .put-frame .last .0) (search needs))
+slice-aggregate-write-all c = sym (length-take-le 2491 (c .before .before .before .put-frame .last .0) (search needs))
 
 write-all-requires : tie.Need-write-all-requires
 write-all-requires c κs = search needs
