@@ -37,7 +37,7 @@ pub fn older(window: u16, hold: Hold) -> Hold
 }
 
 // The lowest node whose permission is not held, the number of nodes where each is.
-pub(crate) fn first_not_held(holds: [Hold; Plan::NODES], nodecount: u8) -> u8
+pub fn first_not_held(holds: [Hold; Plan::NODES], nodecount: u8) -> u8
     ensures { λ r. ⌜ r ≡ firstTo (notHeld holds) nodecount ⌝ }
 {
     let mut i: u8 = 0;

@@ -18,6 +18,7 @@ mod ticks;
 mod waking;
 
 pub use answers::lost_after;
+pub use holds::first_not_held;
 pub use holds::older;
 
 // How far a sleep message has come.

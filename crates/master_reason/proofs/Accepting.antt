@@ -1,0 +1,75 @@
+-- "nothing stands in the way" is said exactly when a sleep ask would be accepted, of every state in range.
+use Prim.Native.Nat.{ℕ}
+use mathlib.Core.Path.{_≡_, refl, sym, ap, _∙_}
+use mathlib.Core.Bool.{Bool, true, false, _&&_}
+use lib.Dec.{ltb, eqb}
+use lib.ListN.{getD}
+use borrow.Author.Tests.{eq-eqb, eqb-true}
+use Rattle.folds.specs.Fold.{pick, firstTo}
+use Rattle.folds.proofs.AllAny.{and-l, and-r}
+use Rattle.folds.proofs.Choices.{no-way}
+use Rattle.machine.specs.declared.State.{State}
+use Rattle.plan.specs.declared.Plan.{Plan}
+use Rattle.plan.specs.Rules.{planRefusal}
+use Rattle.master.specs.declared.Command.{Command}
+use Rattle.master.specs.declared.Event.{Event}
+use Rattle.master.specs.declared.Master.{Master}
+use Rattle.master.specs.declared.Phase.{Phase}
+use Rattle.master.specs.Changes.{causeNew, inPhase, commands, refuse}
+use Rattle.master.specs.Range.{inRange}
+use Rattle.master.specs.Sleeping.{notHeld, missing, sleepAskBy}
+use Rattle.master.specs.Step.{masterStep}
+use Rattle.master_reason.specs.declared.Explained.{Explained}
+use Rattle.master_reason.specs.declared.Reason.{Reason}
+use Rattle.master_reason.specs.Reasons.{causeOf, reasonBy, told, explainBy, explain}
+
+-- a test of what is told: nothing stands in the way
+abbrev isNothing : Reason → Bool
+isNothing Reason.Nothing = true
+isNothing Reason.UnderWay = false
+isNothing Reason.Owed = false
+isNothing Reason.Own = false
+isNothing (Reason.Node node cause) = false
+
+abbrev free : Explained → Bool
+free e = eqb (e .refusal) 0 && isNothing (e .reason)
+
+is-free : (e : Explained) → free e ≡ true → e ≡ told Reason.Nothing
+is-free e h = λ i. record { refusal = eqb-true (e .refusal) 0 (and-l (eqb (e .refusal) 0) (isNothing (e .reason)) h) i; reason = nothing (e .reason) (and-r (eqb (e .refusal) 0) (isNothing (e .reason)) h) i }
+  where
+    nothing : (r : Reason) → isNothing r ≡ true → r ≡ Reason.Nothing
+    nothing Reason.Nothing q = refl
+    nothing Reason.UnderWay q = no-way q
+    nothing Reason.Owed q = no-way q
+    nothing Reason.Own q = no-way q
+    nothing (Reason.Node node cause) q = no-way q
+
+-- free and accepted are one, state by state and phase by phase
+module _ (n : ℕ) (m : Master) where
+  in-open : (own some : Bool) (node : ℕ)
+      → free (told (pick own (pick some (Reason.Node node (causeOf (getD (m .causes) node causeNew))) Reason.Nothing) Reason.Own))
+      ≡ eqb (pick own (pick some (missing node m) (commands Command.SleepMessage (inPhase Phase.Sending m))) (refuse m 19) .refusal) 0
+  in-open true true node = refl
+  in-open true false node = refl
+  in-open false some node = refl
+
+  by-phase : (phase : Phase) → free (told (reasonBy n phase m)) ≡ eqb (sleepAskBy n State.Normal phase m .refusal) 0
+  by-phase Phase.Open = in-open (m .permission) (ltb (firstTo (notHeld (m .holds)) n) n) (firstTo (notHeld (m .holds)) n)
+  by-phase Phase.Sending = refl
+  by-phase Phase.Withdrawn = refl
+  by-phase Phase.Closing = refl
+
+  by-state : (s : State) → free (explainBy n s m) ≡ eqb (sleepAskBy n s (m .phase) m .refusal) 0
+  by-state State.Normal = by-phase (m .phase)
+  by-state State.Standby = refl
+  by-state State.Sleep = refl
+
+module _ (p : Plan) (m : Master) (ok : planRefusal p ≡ 0) (right : inRange (p .nodecount) (p .times) m ≡ true) where
+  same : free (explain p m) ≡ eqb (masterStep p m Event.SleepAsk .refusal) 0
+  same = rw (eq-eqb (planRefusal p) 0 ok, right) (by-state (p .nodecount) m (m .state))
+
+  pub nothing-accepted : explain p m ≡ told Reason.Nothing → masterStep p m Event.SleepAsk .refusal ≡ 0
+  nothing-accepted e = eqb-true (masterStep p m Event.SleepAsk .refusal) 0 (sym same ∙ ap free e)
+
+  pub accepted-nothing : masterStep p m Event.SleepAsk .refusal ≡ 0 → explain p m ≡ told Reason.Nothing
+  accepted-nothing e = is-free (explain p m) (same ∙ ap (λ (r : ℕ). eqb r 0) e)
