@@ -251,7 +251,7 @@ module _ (p : Plan) (ok : planRefusal p ≡ 0) (past : List Passed) where
         by-test Kept (not (eqb (sendResultStep sent (w .master) .refusal) 0)) (λ e. stays-told w (sendResultStep sent (w .master) .refusal) v)
         (λ e. record {
           nodes = Nodes.slept-told p ok sent (bus .reached) (w .nodes) past (v .nodes);
-          master = Masters.result-told p ok past sent (bus .reached) (w .master) (v .master);
+          master = Masters.result-told p ok past sent (bus .reached) (w .master) (eqb-true (sendResultStep sent (w .master) .refusal) 0 (not-false _ e)) (v .master);
         })
 
 module _ (p : Plan) (ok : planRefusal p ≡ 0) where

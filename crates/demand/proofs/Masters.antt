@@ -30,6 +30,8 @@ use Rattle.demand.specs.Demand3.{Given, Agreed, StopsAgreed}
 use Rattle.history.specs.Words.{every, none, masterSaid, masterPermitted, nodePermitted, isAnswerOf, isDamaged, isRefusing, trulyGiven, isWakeUp, isSending, isStop, ticksIn}
 use Rattle.demand.proofs.Ticks.{plus}
 use Rattle.demand.proofs.Nodes.{few}
+use Rattle.demand.proofs.Shown as History
+use Rattle.demand.proofs.Shown.{Quiet, Shown}
 
 -- node i's last answer, k ticks ago
 record Recent (p : Plan) (i k : ℕ) (past : List Passed) : Type 0 where
@@ -106,6 +108,10 @@ pub record MasterTold (p : Plan) (m : Master) (past : List Passed) : Type 0 wher
   run : InRun (p .nodecount) (p .times .window) (masterPermitted past) (λ i k. Recent p i k past) (Agreed p past) m
   pub fits : Fits (p .nodecount) (p .times) m
   stops : Stops p past
+  pub shown : Shown p m past
+
+pub own-word : (p : Plan) (m : Master) (past : List Passed) → MasterTold p m past → m .permission ≡ masterPermitted past
+own-word p m past v = v .run .permission
 
 pub stops-agreed : (p : Plan) (m : Master) (past : List Passed) → MasterTold p m past → StopsAgreed p past
 stops-agreed p m past v since before e q h = stops-split p since before e (subst (Stops p) q (v .stops)) h
@@ -120,16 +126,17 @@ record Neutral (e : Passed) : Type 0 where
   untimed : (k : ℕ) → plus e k ≡ k
   unstopped : isStop e ≡ false
   unsaid : (b : Bool) → masterSaid (e .word) b ≡ b
+  quiet : Quiet e
 
 neutral-nothing : Neutral nothing
-neutral-nothing = record { unsent = refl; unwoken = refl; unrefused = refl; undamaged = refl; unanswered = λ i. refl; untimed = λ k. refl; unstopped = refl; unsaid = λ b. refl }
+neutral-nothing = record { unsent = refl; unwoken = refl; unrefused = refl; undamaged = refl; unanswered = λ i. refl; untimed = λ k. refl; unstopped = refl; unsaid = λ b. refl; quiet = record { unsent = refl; uncalled = refl; unresulted = refl; unreached = refl; unstopped = refl; unwoken = refl; unanswered = λ i. refl; untimed = refl } }
 
 neutral-permits : (node : ℕ) (word : Bool) → Neutral (nodePermits node word)
 neutral-permits node word =
-    record { unsent = refl; unwoken = refl; unrefused = refl; undamaged = refl; unanswered = λ i. refl; untimed = λ k. refl; unstopped = refl; unsaid = λ b. refl }
+    record { unsent = refl; unwoken = refl; unrefused = refl; undamaged = refl; unanswered = λ i. refl; untimed = λ k. refl; unstopped = refl; unsaid = λ b. refl; quiet = record { unsent = refl; uncalled = refl; unresulted = refl; unreached = refl; unstopped = refl; unwoken = refl; unanswered = λ i. refl; untimed = refl } }
 
 neutral-asked : Neutral (asked false)
-neutral-asked = record { unsent = refl; unwoken = refl; unrefused = refl; undamaged = refl; unanswered = λ i. refl; untimed = λ k. refl; unstopped = refl; unsaid = λ b. refl }
+neutral-asked = record { unsent = refl; unwoken = refl; unrefused = refl; undamaged = refl; unanswered = λ i. refl; untimed = λ k. refl; unstopped = refl; unsaid = λ b. refl; quiet = record { unsent = refl; uncalled = refl; unresulted = refl; unreached = refl; unstopped = refl; unwoken = refl; unanswered = λ i. refl; untimed = refl } }
 
 module _ (p : Plan) (ok : planRefusal p ≡ 0) (past : List Passed) where
   -- `Given` and `Agreed` of a run's master, now and a move later
@@ -152,6 +159,7 @@ module _ (p : Plan) (ok : planRefusal p ≡ 0) (past : List Passed) where
             (keep e (z .unanswered) (z .unwoken) (z .untimed)) (agreed-later p past e (z .unsent) (z .unwoken) (z .unrefused) (z .undamaged)) (v .run));
         fits = v .fits;
         stops = (λ h. no-way (sym (z .unstopped) ∙ h), v .stops);
+        shown = History.still p (few p ok) past e m m (z .quiet) refl refl refl refl (v .shown);
       }
 
   pub nothing-told : (m : Master) → MasterTold p m past → MasterTold p m (nothing ∷ past)
@@ -169,6 +177,7 @@ module _ (p : Plan) (ok : planRefusal p ≡ 0) (past : List Passed) where
         run = run-wake-up (p .nodecount) (few p ok) (p .times) Now (Next (asked true)) (Agreed p past) (Agreed p (asked true ∷ past)) (masterPermitted past) m (v .run);
         fits = act-fits p ok m Event.WakeAsk refl (v .fits);
         stops = (λ h. no-way h, v .stops);
+        shown = History.wake-up p (few p ok) past m (v .fits) (v .shown);
       }
 
   pub permission-told : (word : Bool) (m : Master) → MasterTold p m past → MasterTold p (permissionStep word m .master) (masterPermits word ∷ past)
@@ -180,17 +189,19 @@ module _ (p : Plan) (ok : planRefusal p ≡ 0) (past : List Passed) where
             (keep (masterPermits word) (λ i. refl) refl (λ k. refl)) (agreed-later p past (masterPermits word) refl refl refl refl) (v .run);
         fits = act-fits p ok m (Event.Permission word) refl (v .fits);
         stops = (λ h. no-way h, v .stops);
+        shown = History.permission p (few p ok) past word m (v .shown);
       }
 
-  pub result-told : (sent : Bool) (reached : List Bool) (m : Master) → MasterTold p m past → MasterTold p (sendResultStep sent m .master) (slept sent reached ∷ past)
+  pub result-told : (sent : Bool) (reached : List Bool) (m : Master) → sendResultStep sent m .refusal ≡ 0 → MasterTold p m past → MasterTold p (sendResultStep sent m .master) (slept sent reached ∷ past)
   unfolding Stops
-  result-told sent reached m v =
+  result-told sent reached m z v =
       record {
         run =
             run-result (p .nodecount) (few p ok) (p .times) Now (Next (slept sent reached)) (Agreed p past) (Agreed p (slept sent reached ∷ past)) (masterPermitted past) m sent
             (keep (slept sent reached) (λ i. refl) refl (λ k. refl)) (agreed-later p past (slept sent reached) refl refl refl refl) (v .run);
         fits = act-fits p ok m (Event.SendResult sent) refl (v .fits);
         stops = (λ h. no-way h, v .stops);
+        shown = History.result p (few p ok) past sent reached m z (v .shown);
       }
 
   -- a tick, before its pulses
@@ -204,6 +215,7 @@ module _ (p : Plan) (ok : planRefusal p ≡ 0) (past : List Passed) where
             (λ i k l r. recent-later p i k past e refl refl r) (agreed-later p past e refl refl refl refl) (v .run);
         fits = act-fits p ok m Event.Tick refl (v .fits);
         stops = (run-stops (p .nodecount) (few p ok) (p .times) Now Now (Agreed p past) (Agreed p past) (masterPermitted past) m (v .run), v .stops);
+        shown = History.tick p (few p ok) past m (v .fits) (λ off. v .run .outside off .0) (v .shown);
       }
 
   -- and with them
@@ -217,6 +229,7 @@ module _ (p : Plan) (ok : planRefusal p ≡ 0) (past : List Passed) where
             (Agreed p (ticked clock stop true ∷ past)) (masterPermitted past) m (v .run);
         fits = act-fits p ok m Event.Pulse refl (v .fits);
         stops = v .stops;
+        shown = History.pulse p (few p ok) past clock stop m (v .fits) (v .shown);
       }
 
   pub tick-told : (pulse : Bool) (m : Master) → MasterTold p m past
@@ -239,6 +252,7 @@ module _ (p : Plan) (ok : planRefusal p ≡ 0) (past : List Passed) where
             (keep sending (λ i. refl) refl (λ k. refl)) (λ a. sent own each) (v .run));
         fits = f;
         stops = (λ h. no-way h, v .stops);
+        shown = History.sends p (few p ok) past m (v .shown);
       })
       (v .run) (act-fits p ok m Event.SleepAsk refl (v .fits))
     where
@@ -285,6 +299,7 @@ module _ (p : Plan) (ok : planRefusal p ≡ 0) (past : List Passed) where
             (v .run);
         fits = f;
         stops = (λ h. no-way h, v .stops);
+        shown = History.answer p (few p ok) past row a m on l (v .shown);
       }
 
 pub power-on-told : (p : Plan) → planRefusal p ≡ 0 → MasterTold p MasterChanges.powerOn []
@@ -294,4 +309,5 @@ power-on-told p ok =
       run = run-power-on (p .nodecount) (p .times .window) (few p ok) (λ i k. Recent p i k []) (Agreed p []);
       fits = fits (p .nodecount) (p .times) MasterChanges.powerOn (power-on-fits (p .nodecount) (p .times));
       stops = tt;
+      shown = History.power-on p;
     }

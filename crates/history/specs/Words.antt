@@ -1,8 +1,8 @@
--- The words of demand 3, "told by the moves and what passed in them". A past has its latest move first.
+-- The words of demand 3 and of W-205's reasons, "told by the moves and what passed in them". A past has its latest move first.
 use Prim.Native.Nat.{ℕ, suc}
 use mathlib.Core.Bool.{Bool, true, false, not, _&&_, _||_}
 use mathlib.Core.List.{List, [], _∷_}
-use lib.Dec.{eqb}
+use lib.Dec.{leb, eqb}
 use lib.ListN.{getD}
 use Rattle.folds.specs.Fold.{pick}
 use Rattle.plan.specs.declared.Row.{Row}
@@ -20,6 +20,14 @@ every test (e ∷ past) = test e && every test past
 
 abbrev pub none : (Passed → Bool) → List Passed → Bool
 none test past = every (λ e. not (test e)) past
+
+abbrev pub some : (Passed → Bool) → List Passed → Bool
+some test past = not (none test past)
+
+-- the moves since the last of which a test holds, or since power-on
+abbrev pub since : (Passed → Bool) → List Passed → List Passed
+since test [] = []
+since test (e ∷ past) = pick (test e) [] (e ∷ since test past)
 
 -- "Permitted: the application's last permission move said yes; before any it is no": the master's ..
 abbrev pub masterSaid : Word → Bool → Bool
@@ -100,3 +108,49 @@ isResult SendResult.Failed = true
 
 abbrev pub reaches : ℕ → Passed → Bool
 reaches i e = isResult (e .result) && getD (e .slept) i false
+
+-- W-205: a sleep message's result, and one that was sent
+abbrev pub hasResult : Passed → Bool
+hasResult e = isResult (e .result)
+
+abbrev pub wasSent : SendResult → Bool
+wasSent SendResult.Unknown = false
+wasSent SendResult.Sent = true
+wasSent SendResult.Failed = false
+
+abbrev pub isSent : Passed → Bool
+isSent e = wasSent (e .result)
+
+-- the master's own no
+abbrev pub saysNo : Word → Bool
+saysNo Word.Nobody = false
+saysNo (Word.Master permitted) = not permitted
+saysNo (Word.Node node permitted) = false
+
+-- "A call-back is a wake-up, a damaged or refusing answer, or the master's own no"
+abbrev pub isCallBack : Passed → Bool
+isCallBack e = isWakeUp e || isDamaged e || isRefusing e || saysNo (e .word)
+
+-- the clock as the last tick left it; off before any
+abbrev pub clockLeft : List Passed → Bool
+clockLeft [] = false
+clockLeft (e ∷ past) = pick (e .tick) (e .clock) (clockLeft past)
+
+-- a tick that left the clock on, when the one before had left it off
+abbrev pub switchesOn : Passed → List Passed → Bool
+switchesOn e before = e .tick && e .clock && not (clockLeft before)
+
+-- the moves since the tick that last switched the clock on
+abbrev pub sinceOn : List Passed → List Passed
+sinceOn [] = []
+sinceOn (e ∷ past) = pick (switchesOn e past) [] (e ∷ sinceOn past)
+
+-- the last answer of node i that reached the master
+abbrev pub lastAnswer : ℕ → List Passed → Arrival
+lastAnswer i [] = Arrival.Nothing
+lastAnswer i (e ∷ past) = pick (isAnswerOf i e) (e .arrival) (lastAnswer i past)
+
+-- the early part of a past that has at most n ticks
+abbrev pub within : ℕ → List Passed → List Passed
+within n [] = []
+within n (e ∷ past) = pick (leb (ticksIn (e ∷ past)) n) (e ∷ past) (within n past)

@@ -15,17 +15,17 @@ refused-requires c κs = search needs
 returns : tie.Need-returns
 returns c =
     rw (
-        c .explain-with .ensures,
-        ← c .before .before .before .plan-refusal .ensures,
-        eq-eqb _ _ (c .before .before .if1 .taken),
+      c .explain-with .ensures,
+      ← c .before .before .before .plan-refusal .ensures,
+      eq-eqb _ _ (c .before .before .if1 .taken),
     )
 
 returns-2 : tie.Need-returns-2
 returns-2 c =
     rw (
-        c .refused .ensures,
-        ← c .before .before .plan-refusal .ensures,
-        ne-eqb _ _ (c .before .if1 .left),
+      c .refused .ensures,
+      ← c .before .before .plan-refusal .ensures,
+      ne-eqb _ _ (c .before .if1 .left),
     )
 
 pub explain-spec : {M : Type 1} → statement M

@@ -13,9 +13,9 @@ refused-requires c κs = search needs
 returns : tie.Need-returns
 returns c =
     rw (
-        c .refused .ensures,
-        ← c .before .before .in-range .ensures,
-        not-true (c .before .before .in-range .result) (c .before .if1 .taken),
+      c .refused .ensures,
+      ← c .before .before .in-range .ensures,
+      not-true (c .before .before .in-range .result) (c .before .if1 .taken),
     )
 
 enum-told : tie.Need-enum-told
@@ -42,29 +42,29 @@ refused-requires-3 c κs = search needs
 returns-2 : tie.Need-returns-2
 returns-2 c =
     rw (
-        c .told .ensures,
-        c .before .reason-by .ensures,
-        ← c .before .before .before .before .before .in-range .ensures,
-        not-false (c .before .before .before .before .before .in-range .result) (c .before .before .before .before .if1 .left),
-        c .before .before .enum-told .given .1,
+      c .told .ensures,
+      c .before .reason-by .ensures,
+      ← c .before .before .before .before .before .in-range .ensures,
+      not-false (c .before .before .before .before .before .in-range .result) (c .before .before .before .before .if1 .left),
+      c .before .before .enum-told .given .1,
     )
 
 returns-3 : tie.Need-returns-3
 returns-3 c =
     rw (
-        c .refused2 .ensures,
-        ← c .before .before .before .before .in-range .ensures,
-        not-false (c .before .before .before .before .in-range .result) (c .before .before .before .if1 .left),
-        c .before .enum-told2 .given .1,
+      c .refused2 .ensures,
+      ← c .before .before .before .before .in-range .ensures,
+      not-false (c .before .before .before .before .in-range .result) (c .before .before .before .if1 .left),
+      c .before .enum-told2 .given .1,
     )
 
 returns-4 : tie.Need-returns-4
 returns-4 c =
     rw (
-        c .refused3 .ensures,
-        ← c .before .before .before .before .in-range .ensures,
-        not-false (c .before .before .before .before .in-range .result) (c .before .before .before .if1 .left),
-        c .before .enum-told3 .given .1,
+      c .refused3 .ensures,
+      ← c .before .before .before .before .in-range .ensures,
+      not-false (c .before .before .before .before .in-range .result) (c .before .before .before .if1 .left),
+      c .before .enum-told3 .given .1,
     )
 
 pub explain-with-spec : {M : Type 1} → statement M

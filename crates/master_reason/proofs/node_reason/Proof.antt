@@ -15,17 +15,17 @@ cause-of-requires c κs = search needs
 returns : tie.Need-returns
 returns c =
     rw (
-        c .cause-of .ensures,
-        c .before .stored-cause .ensures,
-        ← c .before .before .before .first-not-held .ensures,
-        lt-ltb _ _ (c .before .before .if1 .taken),
+      c .cause-of .ensures,
+      c .before .stored-cause .ensures,
+      ← c .before .before .before .first-not-held .ensures,
+      lt-ltb _ _ (c .before .before .if1 .taken),
     )
 
 returns-2 : tie.Need-returns-2
 returns-2 c =
     rw (
-        ← c .before .first-not-held .ensures,
-        le-ltb _ _ (c .if1 .left),
+      ← c .before .first-not-held .ensures,
+      le-ltb _ _ (c .if1 .left),
     )
 
 pub node-reason-spec : {M : Type 1} → statement M

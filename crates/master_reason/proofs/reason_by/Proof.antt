@@ -20,9 +20,9 @@ enum-told-4 c = search needs
 returns : tie.Need-returns
 returns c =
     rw (
-        c .node-reason .ensures,
-        c .before .before .enum-told .given .1,
-        c .before .if1 .taken,
+      c .node-reason .ensures,
+      c .before .before .enum-told .given .1,
+      c .before .if1 .taken,
     )
 
 returns-2 : tie.Need-returns-2

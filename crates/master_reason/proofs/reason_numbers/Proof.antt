@@ -35,8 +35,8 @@ returns-4 c = search needs
 returns-5 : tie.Need-returns-5
 returns-5 c =
     rw (
-        c .cause-number .ensures,
-        c .before .before .reason .given .1,
+      c .cause-number .ensures,
+      c .before .before .reason .given .1,
     )
 
 pub reason-numbers-spec : {M : Type 1} → statement M

@@ -1,0 +1,122 @@
+-- After every list of moves the reason that is told of the master is the one that the list shows.
+use Prim.Native.Nat.{ℕ, zero, suc, _<_}
+use mathlib.Core.Path.{_≡_, refl, sym, ap, ap₂, _∙_}
+use mathlib.Core.Bool.{Bool, true, false, not}
+use mathlib.Core.List.{List}
+use lib.Dec.{ltb}
+use native.Mathlib.Omega.{arith}
+use lib.ListN.{getD}
+use borrow.Author.Tests.{ltb-true, eq-eqb, not-true}
+use Rattle.folds.specs.Fold.{pick, anyTo, firstTo}
+use Rattle.folds.proofs.First.{first-holds}
+use Rattle.machine.specs.declared.State.{State}
+use Rattle.machine.specs.State.{isNormal}
+use Rattle.plan.specs.declared.Plan.{Plan}
+use Rattle.plan.specs.Rules.{planRefusal}
+use Rattle.master.specs.declared.Hold.{Hold}
+use Rattle.master.specs.declared.Master.{Master}
+use Rattle.master.specs.declared.Phase.{Phase}
+use Rattle.master.specs.Changes.{noHold, causeNew}
+use Rattle.master.specs.Sleeping.{notHeld}
+use Rattle.master.proofs.InRange as MasterRange
+use Rattle.master_reason.specs.declared.Cause.{Cause}
+use Rattle.master_reason.specs.declared.Reason.{Reason}
+use Rattle.master_reason.specs.Numbers.{causeNumber}
+use Rattle.master_reason.specs.Reasons.{causeOf, nodeReason, reasonBy, told, refused, explainBy, explain}
+use Rattle.bus.specs.declared.Move.{Move}
+use Rattle.bus.specs.declared.Passed.{Passed}
+use Rattle.history.specs.Run.{run}
+use Rattle.history.specs.Words.{since, isAnswerOf, ticksIn, clockLeft, sinceOn}
+use Rattle.demand.specs.Reasons.{heldSince, causeSince, firstMissing, nodeShown, underWay, owed, reasonShown, shown, ReasonShown}
+use Rattle.demand.proofs.Causes.{given}
+use Rattle.demand.proofs.Holds.{run-told}
+use Rattle.demand.proofs.Masters.{MasterTold, own-word}
+use Rattle.demand.proofs.Phases.{isUnderWay, isOwed, under-way-shown, owed-shown}
+use Rattle.demand.proofs.Shown.{Node}
+
+-- tests that agree below a bound have one first number there
+module _ (f g : ℕ → Bool) where
+  any-same : (n : ℕ) → ((i : ℕ) → i < n → f i ≡ g i) → anyTo f n ≡ anyTo g n
+  unfolding anyTo
+  any-same zero h = refl
+  any-same (suc n) h = rw (any-same n (λ i l. h i (omega (arith, l))), h n (omega arith))
+
+  first-same : (n : ℕ) → ((i : ℕ) → i < n → f i ≡ g i) → firstTo f n ≡ firstTo g n
+  unfolding firstTo
+  first-same zero h = refl
+  first-same (suc n) h = rw (any-same n (λ i l. h i (omega (arith, l))), first-same n (λ i l. h i (omega (arith, l))), h n (omega arith))
+
+-- a cause and its number
+cause-back : (c : Cause) → causeOf (causeNumber c) ≡ c
+cause-back Cause.New = refl
+cause-back Cause.Refused = refl
+cause-back Cause.Aged = refl
+cause-back Cause.Damaged = refl
+cause-back Cause.Woken = refl
+
+-- the order of the reasons, by what a phase is called
+by-phase : (n : ℕ) (q : Phase) (m : Master) → reasonBy n q m ≡ pick (isUnderWay q) Reason.UnderWay (pick (isOwed q) Reason.Owed (pick (m .permission) (nodeReason n m) Reason.Own))
+by-phase n Phase.Open m = refl
+by-phase n Phase.Sending m = refl
+by-phase n Phase.Withdrawn m = refl
+by-phase n Phase.Closing m = refl
+
+by-state : (n : ℕ) (s : State) (m : Master) → explainBy n s m ≡ pick (isNormal s) (told (reasonBy n (m .phase) m)) (refused 16)
+by-state n State.Normal m = refl
+by-state n State.Standby m = refl
+by-state n State.Sleep m = refl
+
+module _ (p : Plan) (m : Master) (past : List Passed) where
+  -- a node that is not held is shown so, and its cause is the one that is stored
+  held-same : (i : ℕ) → Node (p .times .window) m (sinceOn past) i → notHeld (m .holds) i ≡ not (heldSince p i past)
+  unfolding notHeld
+  held-same i v = ap (λ (h : Hold). not (h .held)) (v .hold) ∙ go (ticksIn (since (isAnswerOf i) (sinceOn past))) (heldSince p i past)
+    where
+      go : (age : ℕ) (b : Bool) → not (pick b (given age) noHold .held) ≡ not b
+      go age true = refl
+      go age false = refl
+
+  cause-same : (i : ℕ) → heldSince p i past ≡ false → Node (p .times .window) m (sinceOn past) i → causeOf (getD (m .causes) i causeNew) ≡ causeSince p i past
+  cause-same i h v = ap causeOf (v .cause ∙ ap (λ (b : Bool). pick b causeNew (causeNumber (causeSince p i past))) h) ∙ cause-back (causeSince p i past)
+
+  nodes-same : ((i : ℕ) → i < p .nodecount → Node (p .times .window) m (sinceOn past) i) → nodeReason (p .nodecount) m ≡ nodeShown p past
+  nodes-same each =
+      ap (λ (f : ℕ). pick (ltb f n) (Reason.Node f (causeOf (getD (m .causes) f causeNew))) Reason.Nothing) first ∙ go (ltb (firstMissing p past) n) refl
+    where
+      n : ℕ
+      n = p .nodecount
+
+      first : firstTo (notHeld (m .holds)) n ≡ firstMissing p past
+      first = first-same (notHeld (m .holds)) (λ i. not (heldSince p i past)) n (λ i l. held-same i (each i l))
+
+      go : (b : Bool) → ltb (firstMissing p past) n ≡ b
+          → pick b (Reason.Node (firstMissing p past) (causeOf (getD (m .causes) (firstMissing p past) causeNew))) Reason.Nothing
+          ≡ pick b (Reason.Node (firstMissing p past) (causeSince p (firstMissing p past) past)) Reason.Nothing
+      go true e =
+          let l = ltb-true (firstMissing p past) n e in
+          ap (Reason.Node (firstMissing p past))
+          (cause-same (firstMissing p past) (not-true _ (first-holds (λ i. not (heldSince p i past)) n l)) (each (firstMissing p past) l))
+      go false e = refl
+
+module _ (p : Plan) (ok : planRefusal p ≡ 0) where
+  of-master : (m : Master) (past : List Passed) → MasterTold p m past → explain p m ≡ shown p past
+  of-master m past v =
+      rw (eq-eqb (planRefusal p) 0 ok, MasterRange.in-range (p .nodecount) (p .times) m (v .fits))
+      (by-state (p .nodecount) (m .state) m ∙ go (clockLeft past) (v .shown .clock))
+    where
+      same : isNormal (m .state) ≡ true → reasonBy (p .nodecount) (m .phase) m ≡ reasonShown p past
+      same on =
+          by-phase (p .nodecount) (m .phase) m
+          ∙ ap (λ (b : Bool). pick b Reason.UnderWay (pick (isOwed (m .phase)) Reason.Owed (pick (m .permission) (nodeReason (p .nodecount) m) Reason.Own)))
+          (ap isUnderWay (v .shown .phase) ∙ sym (under-way-shown past))
+          ∙ ap (λ (b : Bool). pick (underWay past) Reason.UnderWay (pick b Reason.Owed (pick (m .permission) (nodeReason (p .nodecount) m) Reason.Own)))
+          (ap isOwed (v .shown .phase) ∙ sym (owed-shown past))
+          ∙ ap₂ (λ (b : Bool) (r : Reason). pick (underWay past) Reason.UnderWay (pick (owed past) Reason.Owed (pick b r Reason.Own)))
+          (own-word p m past v) (nodes-same p m past (v .shown .nodes on))
+
+      go : (b : Bool) → isNormal (m .state) ≡ b → pick (isNormal (m .state)) (told (reasonBy (p .nodecount) (m .phase) m)) (refused 16) ≡ pick b (told (reasonShown p past)) (refused 16)
+      go true on = rw on (ap told (same on))
+      go false off = rw off
+
+  pub reasons : (moves : List Move) → ReasonShown p moves
+  reasons moves = of-master (run p moves .world .master) (run p moves .past) (run-told p ok moves .master)
