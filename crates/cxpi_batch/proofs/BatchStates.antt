@@ -32,7 +32,7 @@ use Rattle.master_events.specs.declared.ReplyRecord.{ReplyRecord}
 use Rattle.master_events.specs.Events.{eventOf}
 use Rattle.master_events.specs.Replies.{commandNumber}
 use Rattle.master_batch.specs.Batch.{stepped}
-use Rattle.master_bytes.specs.States.{flagAt, holdOf, holdsOf, masterBytes, isMaster, masterOf}
+use Rattle.master_bytes.specs.States.{holdOf, holdsOf, causeOf, causesOf, masterBytes, isMaster, masterOf}
 use Rattle.master_bytes.proofs.StateTrips.{packed-long, packed-back, bytes-back}
 use Rattle.master_in_place.specs.InPlace.{isQuiet, agedBytes, isKept, accepting, lostBefore, answerKept}
 use Rattle.master_in_place.proofs.Masters.{Sized, aged-master, aged-sized, keeps, kept-master, kept-sized, lost-master}
@@ -65,8 +65,10 @@ module _ (p : Plan) (m : Master) where
 
 -- ---- a state's bytes
 pub state-sized : (s : List ℕ) → Sized (masterOf s)
-unfolding holdsOf tableAt
-state-sized s = by-test Sized (isMaster s) (λ e. record { holds = length-tab 16 (holdOf s); counts = length-tab 128 (λ i. byte s (57 + i)) }) (λ e. record { holds = refl; counts = refl })
+unfolding holdsOf causesOf tableAt
+state-sized s =
+    by-test Sized (isMaster s) (λ e. record { holds = length-tab 16 (holdOf s); counts = length-tab 128 (λ i. byte s (57 + i)); causes = length-tab 16 (causeOf s) })
+    (λ e. record { holds = refl; counts = refl; causes = refl })
 
 -- one in range is a state's
 state-is : (n : ℕ) (t : Times) (s : List ℕ) → inRange n t (masterOf s) ≡ true → isMaster s ≡ true
@@ -77,21 +79,21 @@ state-is n t s e = go (isMaster s) refl
     go true h = h
     go false h = no-way (rw h at e)
 
-state-long : (n : ℕ) (t : Times) (s : List ℕ) → inRange n t (masterOf s) ≡ true → length s ≡ 185
+state-long : (n : ℕ) (t : Times) (s : List ℕ) → inRange n t (masterOf s) ≡ true → length s ≡ 201
 unfolding isMaster
 state-long n t s e =
     let is : isMaster s ≡ true = state-is n t s e in
-    eqb-true (length s) 185 (search halves depth 6)
+    eqb-true (length s) 201 (search halves depth 6)
 
 permissions-right : (n : ℕ) (t : Times) (m : Master) → inRange n t m ≡ true → holdsRight n (t .window) (m .holds) ≡ true
 unfolding inRange
 permissions-right n t m e = search halves depth 6
 
-pub written : (s : List ℕ) (m : Master) → length s ≡ 185 → Sized m → sets s 0 (masterBytes m) ≡ masterBytes m
-written s m h sized = sets-whole (masterBytes m) s (packed-long m (sized .holds) (sized .counts) ∙ sym h)
+pub written : (s : List ℕ) (m : Master) → length s ≡ 201 → Sized m → sets s 0 (masterBytes m) ≡ masterBytes m
+written s m h sized = sets-whole (masterBytes m) s (packed-long m (sized .holds) (sized .counts) (sized .causes) ∙ sym h)
 
 pub back : (m : Master) → Sized m → masterOf (masterBytes m) ≡ m
-back m sized = packed-back m (sized .holds) (sized .counts)
+back m sized = packed-back m (sized .holds) (sized .counts) (sized .causes)
 
 -- ---- what a function that judges or steps leaves: its number or reply, the bytes, and the master of them
 module _ (p : Plan) (s : List ℕ) where

@@ -6,6 +6,7 @@ mod states;
 mod steps;
 
 pub use events::event_of;
+pub use places::CAUSES_AT;
 pub use places::COUNTS_AT;
 pub use places::HOLDS_AT;
 pub use places::LENGTH;

@@ -1,9 +1,9 @@
 -- A tick and a whole answer in the bytes of a master's state are the master's own.
 use Prim.Native.Nat.{ℕ, suc, _+_, _*_, _/_, _%_, _^_, _≤_, _<_}
-use mathlib.Core.Path.{_≡_, refl, sym, _∙_, ap}
+use mathlib.Core.Path.{_≡_, refl, sym, _∙_, ap, ap₂}
 use mathlib.Core.Bool.{Bool, true, false, _&&_}
 use mathlib.Core.List.{List, [], _∷_, _++_}
-use lib.Dec.{ltb, leb}
+use lib.Dec.{ltb, leb, eqb}
 use lib.ListN.{length, getD, set, take, length-append, length-set, length-take}
 use lib.Seq.{sets, length-sets, getD-set-same, getD-set-other, getD-take}
 use native.Mathlib.Omega.{arith}
@@ -19,23 +19,26 @@ use Rattle.plan.specs.declared.Row.{Row}
 use Rattle.plan.specs.Answers.{isCounted}
 use Rattle.master.specs.declared.Hold.{Hold}
 use Rattle.master.specs.declared.Master.{Master}
-use Rattle.master.specs.Changes.{noHold, withHolds, hold}
+use Rattle.machine.specs.declared.State.{State}
+use Rattle.machine.specs.State.{isNormal}
+use Rattle.master.specs.Changes.{noHold, causeNew, causeAged, withHolds, withCauses, withCause, hold}
 use Rattle.master.specs.Answers.{lostAfter, counted}
 use Rattle.master.specs.Range.{holdRightAt, holdsRight}
-use Rattle.master.specs.Ticks.{older, olderAt, allOlder, aged}
-use Rattle.master_bytes.specs.States.{phaseByte, masterHead, holdBytes, holdByteAt, holdsBytes, holdsOf, masterBytes, masterFrom}
+use Rattle.master.specs.Ticks.{older, olderAt, allOlder, agedOutAt, allAgedOut, aged}
+use Rattle.master_bytes.specs.States.{phaseByte, masterHead, holdBytes, holdByteAt, holdsBytes, holdsOf, causesOf, masterBytes, masterFrom}
 use Rattle.master_bytes.proofs.StateTrips.{master-back}
-use Rattle.master_in_place.specs.InPlace.{agedHolds, ticked, agedBytes, lostBefore, countKept, answerKept}
+use Rattle.master_in_place.specs.InPlace.{isNormalAt, agedHolds, agedNodes, ticked, agedBytes, lostBefore, countKept, answerKept}
 use Rattle.master_in_place.proofs.Parts.{sets-front, sets-back, sets-whole, sets-before, sets-past, sets-inside}
 
 -- a master's tables have their places
 pub record Sized (m : Master) : Type 0 where
   pub holds : length (m .holds) ≡ 16
   pub counts : length (m .counts) ≡ 128
+  pub causes : length (m .causes) ≡ 16
 
 abbrev withTicks : ℕ → Master → Master
 withTicks ticks m =
-    record { state = m .state; phase = m .phase; permission = m .permission; holds = m .holds; counts = m .counts; delay = m .delay; ticks = ticks }
+    record { state = m .state; phase = m .phase; permission = m .permission; holds = m .holds; causes = m .causes; counts = m .counts; delay = m .delay; ticks = ticks }
 
 holds-long : (holds : List Hold) → length (holdsBytes holds) ≡ 48
 unfolding holdsBytes
@@ -44,35 +47,29 @@ holds-long holds = length-tab 48 (holdByteAt holds)
 front-long : (m : Master) → length (masterHead m ++ holdsBytes (m .holds)) ≡ 57
 front-long m = length-append (masterHead m) (holdsBytes (m .holds)) ∙ rw (holds-long (m .holds))
 
-module _ (m : Master) where
-  -- bytes over those of the permissions
-  put-in-holds : (vs : List ℕ) (i : ℕ) → i + length vs ≤ 48 → sets (masterBytes m) (9 + i) vs ≡ masterHead m ++ sets (holdsBytes (m .holds)) i vs ++ m .counts
-  unfolding masterBytes
-  put-in-holds vs i h =
-      sets-back vs (masterHead m ++ holdsBytes (m .holds)) (m .counts) (9 + i) (omega (arith, front-long m, h))
-      ∙ ap (λ (l : List ℕ). l ++ m .counts) (sets-front (masterHead m) (holdsBytes (m .holds)) vs i)
+-- the bytes before the causes
+counts-long : (m : Master) → length (masterHead m ++ holdsBytes (m .holds) ++ m .counts) ≡ 57 + length (m .counts)
+counts-long m = length-append (masterHead m ++ holdsBytes (m .holds)) (m .counts) ∙ rw (front-long m)
 
-  put-holds : (holds : List Hold) → sets (masterBytes m) 9 (holdsBytes holds) ≡ masterBytes (withHolds holds m)
+module _ (m : Master) where
+  -- bytes before the counts
+  put-in-front : (vs : List ℕ) (i : ℕ) → i + length vs ≤ 57 → sets (masterBytes m) i vs ≡ sets (masterHead m ++ holdsBytes (m .holds)) i vs ++ m .counts ++ m .causes
   unfolding masterBytes
-  put-holds holds =
-      put-in-holds (holdsBytes holds) 0 (omega (arith, holds-long holds))
-      ∙ ap (λ (l : List ℕ). masterHead m ++ l ++ m .counts) (sets-whole (holdsBytes holds) (holdsBytes (m .holds)) (holds-long holds ∙ sym (holds-long (m .holds))))
+  put-in-front vs i h =
+      sets-back vs (masterHead m ++ holdsBytes (m .holds) ++ m .counts) (m .causes) i (omega (arith, counts-long m, h))
+      ∙ ap (λ (l : List ℕ). l ++ m .causes) (sets-back vs (masterHead m ++ holdsBytes (m .holds)) (m .counts) i (omega (arith, front-long m, h)))
+
+  -- over those of the permissions
+  put-in-holds : (vs : List ℕ) (i : ℕ) → i + length vs ≤ 48 → sets (masterBytes m) (9 + i) vs ≡ masterHead m ++ sets (holdsBytes (m .holds)) i vs ++ m .counts ++ m .causes
+  put-in-holds vs i h =
+      put-in-front vs (9 + i) (omega (arith, h)) ∙ ap (λ (l : List ℕ). l ++ m .counts ++ m .causes) (sets-front (masterHead m) (holdsBytes (m .holds)) vs i)
 
   -- over those of the tick number
   put-ticks : (ticks : ℕ) → sets (masterBytes m) 5 (fourBytes ticks) ≡ masterBytes (withTicks ticks m)
   unfolding masterBytes
   put-ticks ticks =
-      let five = stateByte (m .state) ∷ phaseByte (m .phase) ∷ flagByte (m .permission) ∷ twoBytes (m .delay) in
-      sets-back (fourBytes ticks) (masterHead m ++ holdsBytes (m .holds)) (m .counts) 5 (omega (arith, front-long m))
-      ∙ ap (λ (l : List ℕ). l ++ m .counts) (sets-back (fourBytes ticks) (masterHead m) (holdsBytes (m .holds)) 5 (omega arith))
-
-  -- over that of a count
-  put-count : (reqid count : ℕ) → sets (masterBytes m) (57 + reqid) (count ∷ []) ≡ masterBytes (counted reqid count m)
-  unfolding masterBytes
-  put-count reqid count =
-      let z : 57 + reqid ≡ length (masterHead m ++ holdsBytes (m .holds)) + reqid = omega (arith, front-long m) in
-      ap (λ (o : ℕ). sets (masterHead m ++ holdsBytes (m .holds) ++ m .counts) o (count ∷ [])) z
-      ∙ sets-front (masterHead m ++ holdsBytes (m .holds)) (m .counts) (count ∷ []) reqid
+      put-in-front (fourBytes ticks) 5 (omega arith)
+      ∙ ap (λ (l : List ℕ). l ++ m .counts ++ m .causes) (sets-back (fourBytes ticks) (masterHead m) (holdsBytes (m .holds)) 5 (omega arith))
 
 -- over those of one permission
 hold-set : (holds : List Hold) (k : ℕ) (x : Hold) → length holds ≡ 16 → k < 16 → sets (holdsBytes holds) (3 * k) (holdBytes x) ≡ holdsBytes (set holds k x)
@@ -97,28 +94,52 @@ hold-set holds k x long h =
         away (yes l) = sets-before (holdBytes x) old (3 * k) i 0 l
         away (no l) = sets-past (holdBytes x) old (3 * k) i 0 (omega (arith, l, n))
 
--- a node from N on holds nothing that could age
-none-older : (n window : ℕ) (holds : List Hold) → holdsRight n window holds ≡ true → (k : ℕ) → k < 16 → n ≤ k → older window (getD holds k noHold) ≡ getD holds k noHold
+-- a node from N on holds nothing, and nothing that could age
+none-held : (n window : ℕ) (holds : List Hold) → holdsRight n window holds ≡ true → (k : ℕ) → k < 16 → n ≤ k → getD holds k noHold .held ≡ false
 unfolding holdsRight
-none-older n window holds right k h far = go (getD holds k noHold .held) refl
+none-held n window holds right k h far = go (getD holds k noHold .held) refl
   where
     here : holdRightAt n window holds k ≡ true
     here = all-at (holdRightAt n window holds) 16 right k h
 
-    go : (b : Bool) → getD holds k noHold .held ≡ b → older window (getD holds k noHold) ≡ getD holds k noHold
+    go : (b : Bool) → getD holds k noHold .held ≡ b → getD holds k noHold .held ≡ false
     go true e =
         let w : (ltb k n && leb (getD holds k noHold .age) window) ≡ true = rw e at here in
         let l = ltb-true k n (and-l (ltb k n) _ w) in
         absurd (omega (arith, l, far))
-    go false e = rw e
+    go false e = e
+
+none-older : (n window : ℕ) (holds : List Hold) → holdsRight n window holds ≡ true → (k : ℕ) → k < 16 → n ≤ k → older window (getD holds k noHold) ≡ getD holds k noHold
+none-older n window holds right k h far = rw (none-held n window holds right k h far)
 
 module _ (m : Master) (sized : Sized m) where
   back : masterFrom (masterBytes m) ≡ m
-  back = master-back m (sized .holds) (sized .counts)
+  back = master-back m (sized .holds) (sized .counts) (sized .causes)
 
   put-hold : (k : ℕ) (x : Hold) → k < 16 → sets (masterBytes m) (9 + 3 * k) (holdBytes x) ≡ masterBytes (withHolds (set (m .holds) k x) m)
   unfolding masterBytes
-  put-hold k x h = put-in-holds m (holdBytes x) (3 * k) (omega (arith, h)) ∙ ap (λ (l : List ℕ). masterHead m ++ l ++ m .counts) (hold-set (m .holds) k x (sized .holds) h)
+  put-hold k x h = put-in-holds m (holdBytes x) (3 * k) (omega (arith, h)) ∙ ap (λ (l : List ℕ). masterHead m ++ l ++ m .counts ++ m .causes) (hold-set (m .holds) k x (sized .holds) h)
+
+  -- over that of a count
+  put-count : (reqid count : ℕ) → reqid < 128 → sets (masterBytes m) (57 + reqid) (count ∷ []) ≡ masterBytes (counted reqid count m)
+  unfolding masterBytes
+  put-count reqid count h =
+      let z : 57 + reqid ≡ length (masterHead m ++ holdsBytes (m .holds)) + reqid = omega (arith, front-long m) in
+      sets-back (count ∷ []) (masterHead m ++ holdsBytes (m .holds) ++ m .counts) (m .causes) (57 + reqid) (omega (arith, counts-long m, sized .counts, h))
+      ∙ ap (λ (l : List ℕ). l ++ m .causes)
+      (ap (λ (o : ℕ). sets (masterHead m ++ holdsBytes (m .holds) ++ m .counts) o (count ∷ [])) z ∙ sets-front (masterHead m ++ holdsBytes (m .holds)) (m .counts) (count ∷ []) reqid)
+
+  -- over those of the causes
+  put-in-causes : (vs : List ℕ) (i : ℕ) → sets (masterBytes m) (185 + i) vs ≡ masterHead m ++ holdsBytes (m .holds) ++ m .counts ++ sets (m .causes) i vs
+  unfolding masterBytes
+  put-in-causes vs i =
+      let z : 185 + i ≡ length (masterHead m ++ holdsBytes (m .holds) ++ m .counts) + i = omega (arith, counts-long m, sized .counts) in
+      ap (λ (o : ℕ). sets (masterHead m ++ holdsBytes (m .holds) ++ m .counts ++ m .causes) o vs) z
+      ∙ sets-front (masterHead m ++ holdsBytes (m .holds) ++ m .counts) (m .causes) vs i
+
+  put-cause : (k cause : ℕ) → sets (masterBytes m) (185 + k) (cause ∷ []) ≡ masterBytes (withCause cause k m)
+  unfolding masterBytes
+  put-cause k cause = put-in-causes (cause ∷ []) k
 
   -- the permissions from N on are as old as they were, so the first nodes' are all
   aged-parts : (n window i : ℕ) → holdsRight n window (m .holds) ≡ true → i < 48 → Dec (i < 3 * n)
@@ -144,7 +165,7 @@ module _ (m : Master) (sized : Sized m) where
       let new = holdsBytes (allOlder window (m .holds)) in
       ap (λ (k : Master). sets (masterBytes m) 9 (take (3 * n) (holdsBytes (allOlder window (k .holds))))) back
       ∙ put-in-holds m (take (3 * n) new) 0 (omega (arith, length-take (3 * n) new, holds-long (allOlder window (m .holds))))
-      ∙ ap (λ (l : List ℕ). masterHead m ++ l ++ m .counts)
+      ∙ ap (λ (l : List ℕ). masterHead m ++ l ++ m .counts ++ m .causes)
       (tab-of 0 48 (holdByteAt (allOlder window (m .holds))) (sets (holdsBytes (m .holds)) 0 (take (3 * n) new)) (length-sets (holdsBytes (m .holds)) 0 (take (3 * n) new) ∙ holds-long (m .holds))
       (λ i h. aged-parts n window i right h (decLt i (3 * n))))
 
@@ -154,47 +175,102 @@ module _ (m : Master) (sized : Sized m) where
 
 older-sized : (m : Master) (window : ℕ) → Sized m → Sized (withHolds (allOlder window (m .holds)) m)
 unfolding allOlder
-older-sized m window sized = record { holds = length-tab 16 (olderAt window (m .holds)); counts = sized .counts }
+older-sized m window sized = record { holds = length-tab 16 (olderAt window (m .holds)); counts = sized .counts; causes = sized .causes }
 
 counted-sized : (m : Master) (reqid count : ℕ) → Sized m → Sized (counted reqid count m)
-counted-sized m reqid count sized = record { holds = sized .holds; counts = length-set (m .counts) reqid count ∙ sized .counts }
+counted-sized m reqid count sized = record { holds = sized .holds; counts = length-set (m .counts) reqid count ∙ sized .counts; causes = sized .causes }
+
+pub aged-sized : (m : Master) (window : ℕ) → Sized m → Sized (aged window m)
+unfolding allOlder allAgedOut
+aged-sized m window sized =
+    record { holds = length-tab 16 (olderAt window (m .holds)); counts = sized .counts; causes = length-tab 16 (agedOutAt (isNormal (m .state)) window (m .holds) (m .causes)) }
+
+-- the state's own byte
+normal-at : (m : Master) → isNormalAt (masterBytes m) ≡ isNormal (m .state)
+unfolding masterBytes
+normal-at m = go (m .state)
+  where
+    go : (s : State) → eqb (stateByte s) 0 ≡ isNormal s
+    go State.Normal = refl
+    go State.Standby = refl
+    go State.Sleep = refl
+
+-- the causes from N on stay, since nothing is held there
+aged-causes : (m : Master) (n window : ℕ) (normal : Bool) → Sized m → holdsRight n window (m .holds) ≡ true
+    → sets (m .causes) 0 (take n (allAgedOut normal window (m .holds) (m .causes))) ≡ allAgedOut normal window (m .holds) (m .causes)
+unfolding allAgedOut
+aged-causes m n window normal sized right =
+    tab-of 0 16 (agedOutAt normal window (m .holds) (m .causes)) (sets (m .causes) 0 (take n new)) (length-sets (m .causes) 0 (take n new) ∙ sized .causes) (λ i h. at i h (decLt i n))
+  where
+    new : List ℕ
+    new = tab 16 (agedOutAt normal window (m .holds) (m .causes))
+
+    long : length new ≡ 16
+    long = length-tab 16 (agedOutAt normal window (m .holds) (m .causes))
+
+    at : (i : ℕ) → i < 16 → Dec (i < n) → getD (sets (m .causes) 0 (take n new)) i 0 ≡ agedOutAt normal window (m .holds) (m .causes) i
+    at i h (yes l) =
+        let z : i ≡ 0 + i = omega arith in
+        ap (λ (o : ℕ). getD (sets (m .causes) 0 (take n new)) o 0) z
+        ∙ sets-inside (take n new) (m .causes) 0 i 0 (omega (arith, length-take n new, long, h, l)) (omega (arith, length-take n new, long, sized .causes))
+        ∙ getD-take n new i 0 l ∙ getD-tab 16 (agedOutAt normal window (m .holds) (m .causes)) i 0 h
+    at i h (no l) =
+        sets-past (take n new) (m .causes) 0 i 0 (omega (arith, length-take n new, l))
+        ∙ sym (rw (none-held n window (m .holds) right i h (omega (arith, l))) (go normal))
+      where
+        go : (b : Bool) → pick (b && false && leb window (getD (m .holds) i noHold .age)) causeAged (getD (m .causes) i causeNew) ≡ getD (m .causes) i 0
+        go true = refl
+        go false = refl
 
 -- "Tick, any state: tick number up by one; held ages up by one, and one above W is let go"
 pub aged-master : (m : Master) (n window : ℕ) → Sized m → holdsRight n window (m .holds) ≡ true → agedBytes n window (masterBytes m) ≡ masterBytes (aged window m)
-unfolding ticked
+unfolding ticked agedNodes masterBytes
 aged-master m nodecount window sized right =
-    let n = withHolds (allOlder window (m .holds)) m in
-    ap ticked (aged-holds m sized nodecount window right)
-    ∙ ap (λ (k : Master). sets (masterBytes n) 5 (fourBytes ((k .ticks + 1) % 2 ^ 32))) (back n (older-sized m window sized))
+    let k = withHolds (allOlder window (m .holds)) m in
+    let normal = isNormal (m .state) in
+    let new = allAgedOut normal window (m .holds) (m .causes) in
+    let n = withCauses new k in
+    let z = aged-sized m window sized in
+    ap ticked
+    (ap₂ (λ (l : List ℕ) (b : Bool). sets l 185 (take nodecount (allAgedOut b window (holdsOf (masterBytes m)) (causesOf (masterBytes m))))) (aged-holds m sized nodecount window right) (normal-at m)
+    ∙ ap₂ (λ (h : List Hold) (c : List ℕ). sets (masterBytes k) 185 (take nodecount (allAgedOut normal window h c))) (ap (λ (x : Master). x .holds) (back m sized)) (ap (λ (x : Master). x .causes) (back m sized))
+    ∙ put-in-causes k (older-sized m window sized) (take nodecount new) 0
+    ∙ ap (λ (l : List ℕ). masterHead m ++ holdsBytes (allOlder window (m .holds)) ++ m .counts ++ l) (aged-causes m nodecount window normal sized right))
+    ∙ ap (λ (x : Master). sets (masterBytes n) 5 (fourBytes ((x .ticks + 1) % 2 ^ 32))) (back n (record { holds = z .holds; counts = z .counts; causes = z .causes }))
     ∙ put-ticks n ((m .ticks + 1) % 2 ^ 32)
-
-pub aged-sized : (m : Master) (window : ℕ) → Sized m → Sized (aged window m)
-unfolding allOlder
-aged-sized m window sized = record { holds = length-tab 16 (olderAt window (m .holds)); counts = sized .counts }
 
 -- what is kept of a whole answer that permits sleep
 abbrev pub keeps : Row → ℕ → Master → Master
-keeps row count m = hold (row .publisher) (pick (isCounted row) (counted (row .reqid) count m) m)
+keeps row count m = hold (row .publisher) (withCause causeNew (row .publisher) (pick (isCounted row) (counted (row .reqid) count m) m))
 
 module _ (m : Master) (row : Row) (count : ℕ) (sized : Sized m) (node : row .publisher < 16) (reqid : row .reqid < 128) where
+  held-sized : (k : Master) → Sized k → Sized (hold (row .publisher) k)
+  held-sized k s = record { holds = length-set (k .holds) (row .publisher) (record { held = true; age = 0 }) ∙ s .holds; counts = s .counts; causes = s .causes }
+
   pub kept-master : answerKept row count (masterBytes m) ≡ masterBytes (keeps row count m)
   kept-master = go (isCounted row)
     where
       given : Hold
       given = record { held = true; age = 0 }
 
-      go : (b : Bool) → sets (pick b (sets (masterBytes m) (57 + row .reqid) (count ∷ [])) (masterBytes m)) (9 + 3 * row .publisher) (holdBytes (record { held = true; age = 0 }))
-          ≡ masterBytes (hold (row .publisher) (pick b (counted (row .reqid) count m) m))
+      then : (n : Master) → Sized n → sets (sets (masterBytes n) (9 + 3 * row .publisher) (holdBytes given)) (185 + row .publisher) (causeNew ∷ []) ≡ masterBytes (hold (row .publisher) (withCause causeNew (row .publisher) n))
+      then n s =
+          ap (λ (l : List ℕ). sets l (185 + row .publisher) (causeNew ∷ [])) (put-hold n s (row .publisher) given node)
+          ∙ put-cause (hold (row .publisher) n) (held-sized n s) (row .publisher) causeNew
+
+      go : (b : Bool) → sets (sets (pick b (sets (masterBytes m) (57 + row .reqid) (count ∷ [])) (masterBytes m)) (9 + 3 * row .publisher) (holdBytes (record { held = true; age = 0 }))) (185 + row .publisher) (causeNew ∷ [])
+          ≡ masterBytes (hold (row .publisher) (withCause causeNew (row .publisher) (pick b (counted (row .reqid) count m) m)))
       go true =
-          ap (λ (s : List ℕ). sets s (9 + 3 * row .publisher) (holdBytes given)) (put-count m (row .reqid) count)
-          ∙ put-hold (counted (row .reqid) count m) (counted-sized m (row .reqid) count sized) (row .publisher) given node
-      go false = put-hold m sized (row .publisher) given node
+          ap (λ (s : List ℕ). sets (sets s (9 + 3 * row .publisher) (holdBytes given)) (185 + row .publisher) (causeNew ∷ [])) (put-count m sized (row .reqid) count reqid)
+          ∙ then (counted (row .reqid) count m) (counted-sized m (row .reqid) count sized)
+      go false = then m sized
 
   pub kept-sized : Sized (keeps row count m)
-  kept-sized = by-test (λ (k : Master). Sized (hold (row .publisher) k)) (isCounted row) (λ e. held (counted-sized m (row .reqid) count sized)) (λ e. held sized)
+  kept-sized = by-test (λ (k : Master). Sized (hold (row .publisher) (withCause causeNew (row .publisher) k))) (isCounted row) (λ e. held (counted-sized m (row .reqid) count sized)) (λ e. held sized)
     where
-      held : {k : Master} → Sized k → Sized (hold (row .publisher) k)
-      held {k} s = record { holds = length-set (k .holds) (row .publisher) (record { held = true; age = 0 }) ∙ s .holds; counts = s .counts }
+      held : {k : Master} → Sized k → Sized (hold (row .publisher) (withCause causeNew (row .publisher) k))
+      held {k} s =
+          held-sized (withCause causeNew (row .publisher) k) (record { holds = s .holds; counts = s .counts; causes = length-set (k .causes) (row .publisher) causeNew ∙ s .causes })
 
   pub lost-master : lostBefore row count (masterBytes m) ≡ pick (isCounted row) (lostAfter (getD (m .counts) (row .reqid) 0) count) 0
   lost-master = ap (λ (last : ℕ). pick (isCounted row) (lostAfter last count) 0) (count-there m sized (row .reqid) reqid)

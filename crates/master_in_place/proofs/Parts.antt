@@ -3,7 +3,7 @@ use Prim.Native.Nat.{ℕ, zero, suc, _+_, _≤_, _<_}
 use mathlib.Core.Path.{_≡_, refl, sym, _∙_, ap}
 use mathlib.Core.List.{List, [], _∷_, _++_, append-nil}
 use lib.ListN.{length, getD, set, drop, length-set}
-use lib.Seq.{sets, sets-eq, drop-length, getD-set-same, getD-set-other}
+use lib.Seq.{sets, sets-eq, drop-length, set-comm, getD-set-same, getD-set-other}
 use native.Mathlib.Omega.{arith}
 
 module _ {A : Type 0} where
@@ -62,3 +62,13 @@ module _ {A : Type 0} where
       let u : i + 1 ≡ suc i = omega arith in
       let v : i + 2 ≡ suc (suc i) = omega arith in
       rw (u, v)
+
+  -- what is stored further on can be stored first
+  set-apart : (vs l : List A) (i j : ℕ) (u : A) → j + length vs ≤ i → sets (set l i u) j vs ≡ set (sets l j vs) i u
+  set-apart [] l i j u h = refl
+  set-apart (v ∷ vs) l i j u h =
+      ap (λ (r : List A). sets r (suc j) vs) (set-comm l i j u v (λ e. omega (arith, h, e))) ∙ set-apart vs (set l j v) i (suc j) u (omega (arith, h))
+
+  pub sets-apart : (us vs l : List A) (i j : ℕ) → j + length vs ≤ i → sets (sets l i us) j vs ≡ sets (sets l j vs) i us
+  sets-apart [] vs l i j h = refl
+  sets-apart (u ∷ us) vs l i j h = sets-apart us vs (set l i u) (suc i) j (omega (arith, h)) ∙ ap (λ (r : List A). sets r (suc i) us) (set-apart vs l i j u h)

@@ -26,7 +26,7 @@ use Rattle.master.specs.declared.Phase.{Phase}
 use Rattle.master.specs.declared.Answer.{Answer}
 use Rattle.master.specs.declared.Master.{Master}
 use Rattle.master.specs.declared.Reply.{Reply}
-use Rattle.master.specs.Changes.{hold, silent}
+use Rattle.master.specs.Changes.{causeNew, withCause, hold, silent}
 use Rattle.master.specs.Range.{inRange}
 use Rattle.master.specs.Answers.{lostAfter, counted, reports, answerBy, answerStep}
 use Rattle.master.specs.Ticks.{aged, tickBy}
@@ -84,8 +84,8 @@ whole-answer m row a normal node whole long permits calm =
     ap (λ (s : State). answerBy s (Lookup.Found row) a m) normal ∙ rw (node, whole, long, permits, calm) (by-count (isCounted row))
   where
     by-count : (b : Bool)
-        → pick b (reports (lostAfter (getD (m .counts) (row .reqid) 0) (a .count)) (hold (row .publisher) (counted (row .reqid) (a .count) m))) (reports 0 (hold (row .publisher) m))
-        ≡ reports (pick b (lostAfter (getD (m .counts) (row .reqid) 0) (a .count)) 0) (hold (row .publisher) (pick b (counted (row .reqid) (a .count) m) m))
+        → pick b (reports (lostAfter (getD (m .counts) (row .reqid) 0) (a .count)) (hold (row .publisher) (withCause causeNew (row .publisher) (counted (row .reqid) (a .count) m)))) (reports 0 (hold (row .publisher) (withCause causeNew (row .publisher) m)))
+        ≡ reports (pick b (lostAfter (getD (m .counts) (row .reqid) 0) (a .count)) 0) (hold (row .publisher) (withCause causeNew (row .publisher) (pick b (counted (row .reqid) (a .count) m) m)))
     by-count true = refl
     by-count false = refl
 

@@ -2,7 +2,7 @@
 use Prim.Native.Nat.{ℕ, _+_, _*_, _%_, _^_}
 use mathlib.Core.Bool.{Bool, true, _&&_, _||_}
 use mathlib.Core.List.{List, [], _∷_}
-use lib.Dec.{ltb, eqb}
+use lib.Dec.{leb, ltb, eqb}
 use lib.ListN.{take}
 use lib.Seq.{sets}
 use Rattle.folds.specs.Fold.{pick}
@@ -11,31 +11,49 @@ use Rattle.plan.specs.declared.Row.{Row}
 use Rattle.plan.specs.declared.Lookup.{Lookup}
 use Rattle.plan.specs.Limits.{reqids, seqCounts}
 use Rattle.plan.specs.Answers.{masterNumber, isCounted, accepts}
+use Rattle.master.specs.declared.Hold.{Hold}
 use Rattle.master.specs.Answers.{lostAfter}
-use Rattle.master.specs.Ticks.{allOlder}
+use Rattle.master.specs.Changes.{causeNew, causeAged}
+use Rattle.master.specs.Ticks.{older, allOlder, allAgedOut}
 use Rattle.master_events.specs.declared.EventRecord.{EventRecord}
-use Rattle.master_bytes.specs.Places.{stateAt, phaseAt, ticksAt, holdsAt, countsAt}
-use Rattle.master_bytes.specs.States.{holdBytes, holdsBytes, holdsOf}
+use Rattle.master_bytes.specs.Places.{stateAt, phaseAt, ticksAt, holdsAt, countsAt, causesAt}
+use Rattle.master_bytes.specs.States.{holdBytes, holdsBytes, holdOf, holdsOf, causesOf}
+
+abbrev pub isNormalAt : List ℕ → Bool
+isNormalAt s = eqb (byte s stateAt) 0
 
 -- a tick that leaves state and phase: in Sleep, and in Normal but in Closing
 abbrev pub isQuiet : List ℕ → EventRecord → Bool
-isQuiet s e = eqb (e .kind) 0 && (eqb (byte s stateAt) 2 || (eqb (byte s stateAt) 0 && ltb (byte s phaseAt) 3))
+isQuiet s e = eqb (e .kind) 0 && (eqb (byte s stateAt) 2 || (isNormalAt s && ltb (byte s phaseAt) 3))
 
 -- "held ages up by one, and one above W is let go", of the first nodes: from N on none is held
 unfoldable pub agedHolds : ℕ → ℕ → List ℕ → List ℕ
 agedHolds nodecount window s = sets s holdsAt (take (3 * nodecount) (holdsBytes (allOlder window (holdsOf s))))
+
+-- one node a tick later; a permission let go so in Normal is "aged out"
+abbrev pub isDue : Bool → ℕ → Hold → Bool
+isDue normal window h = normal && h .held && leb window (h .age)
+
+abbrev pub nodeAged : Bool → ℕ → ℕ → List ℕ → List ℕ
+nodeAged normal window k s =
+    pick (isDue normal window (holdOf s k)) (sets (sets s (holdsAt + 3 * k) (holdBytes (older window (holdOf s k)))) (causesAt + k) (causeAged ∷ []))
+    (sets s (holdsAt + 3 * k) (holdBytes (older window (holdOf s k))))
+
+-- the first nodes
+unfoldable pub agedNodes : ℕ → ℕ → List ℕ → List ℕ
+agedNodes nodecount window s = sets (agedHolds nodecount window s) causesAt (take nodecount (allAgedOut (isNormalAt s) window (holdsOf s) (causesOf s)))
 
 -- "tick number up by one"
 unfoldable pub ticked : List ℕ → List ℕ
 ticked s = sets s ticksAt (fourBytes ((longNumber s ticksAt + 1) % 2 ^ 32))
 
 abbrev pub agedBytes : ℕ → ℕ → List ℕ → List ℕ
-agedBytes nodecount window s = ticked (agedHolds nodecount window s)
+agedBytes nodecount window s = ticked (agedNodes nodecount window s)
 
 -- "Answer (Normal only)", undamaged, with permission bit 1 and wake bit 0
 abbrev pub isKept : List ℕ → EventRecord → Bool
 isKept s e =
-    eqb (e .kind) 1 && eqb (byte s stateAt) 0 && (ltb (e .reqid) reqids && ltb (e .count) seqCounts) && (eqb (e .permission) 1 && eqb (e .wake) 0) && eqb (e .result) 0
+    eqb (e .kind) 1 && isNormalAt s && (ltb (e .reqid) reqids && ltb (e .count) seqCounts) && (eqb (e .permission) 1 && eqb (e .wake) 0) && eqb (e .result) 0
 
 -- its row, where it is a node's and accepts the length
 abbrev pub accepting : Lookup → ℕ → Lookup
@@ -49,6 +67,7 @@ lostBefore row count s = pick (isCounted row) (lostAfter (byte s (countsAt + row
 abbrev pub countKept : Row → ℕ → List ℕ → List ℕ
 countKept row count s = pick (isCounted row) (sets s (countsAt + row .reqid) (count ∷ [])) s
 
--- "held with age 0"
+-- "held with age 0", and with no cause
 abbrev pub answerKept : Row → ℕ → List ℕ → List ℕ
-answerKept row count s = sets (countKept row count s) (holdsAt + 3 * row .publisher) (holdBytes (record { held = true; age = 0 }))
+answerKept row count s =
+    sets (sets (countKept row count s) (holdsAt + 3 * row .publisher) (holdBytes (record { held = true; age = 0 }))) (causesAt + row .publisher) (causeNew ∷ [])

@@ -5,18 +5,19 @@ ghost use Prim.Native.Nat.{_+_, _*_};
 ghost use lib.Dec.{ltb};
 ghost use lib.Seq.{sets};
 ghost use Rattle.folds.specs.Fold.{pick};
-ghost use Rattle.master.specs.Ticks.{older};
 ghost use Rattle.master_bytes.specs.Places.{holdsAt};
-ghost use Rattle.master_bytes.specs.States.{holdBytes, holdOf};
-ghost use Rattle.master_in_place.specs.InPlace.{isQuiet, agedHolds, ticked, agedBytes, isKept, accepting, lostBefore, countKept, answerKept};
+ghost use Rattle.master_bytes.specs.States.{holdBytes};
+ghost use Rattle.master_in_place.specs.InPlace.{isQuiet, nodeAged, agedNodes, ticked, agedBytes, isKept, accepting, lostBefore, countKept, answerKept};
 use blocks::byte_at;
 use blocks::long_number;
 use blocks::number_at;
 use blocks::put;
 use machine::flag_byte;
 use master::Hold;
+use master::Master;
 use master::lost_after;
 use master::older;
+use master_bytes::CAUSES_AT;
 use master_bytes::COUNTS_AT;
 use master_bytes::HOLDS_AT;
 use master_bytes::PHASE_AT;
@@ -46,23 +47,28 @@ fn put_hold(state: &mut [u8], node: u8, hold: Hold)
     put_byte(state, start + 2, (hold.age % 256) as u8);
 }
 
-fn age_hold(state: &mut [u8], k: u8, nodes: u8, window: u16)
-    ensures { λ _. ⌜ now (state .exit) ≡ pick (ltb k nodes) (sets (now (state .entry)) (holdsAt + 3 * k) (holdBytes (older window (holdOf (now (state .entry)) k)))) (now (state .entry)) ⌝ }
+fn age_node(state: &mut [u8], k: u8, nodes: u8, window: u16, normal: bool)
+    ensures { λ _. ⌜ now (state .exit) ≡ pick (ltb k nodes) (nodeAged normal window k (now (state .entry))) (now (state .entry)) ⌝ }
 {
     if k >= nodes {
         return;
     }
     let hold = hold_of(state, k);
     put_hold(state, k, older(window, hold));
+    let due = normal & hold.held & (window <= hold.age);
+    if due {
+        put_byte(state, CAUSES_AT + (k as usize), Master::AGED);
+    }
 }
 
 // All places are passed, so that their number is known to the compiler.
-fn age_holds(state: &mut [u8], nodes: u8, window: u16)
-    ensures { λ _. ⌜ now (state .exit) ≡ agedHolds nodes window (now (state .entry)) ⌝ }
+fn age_nodes(state: &mut [u8], nodes: u8, window: u16)
+    ensures { λ _. ⌜ now (state .exit) ≡ agedNodes nodes window (now (state .entry)) ⌝ }
 {
+    let normal = byte_at(state, STATE_AT) == 0;
     let mut k: u8 = 0;
     while (k as usize) < Plan::NODES {
-        age_hold(state, k, nodes, window);
+        age_node(state, k, nodes, window, normal);
         k += 1;
     }
 }
@@ -96,7 +102,7 @@ pub fn is_quiet(state: &[u8], event: EventRecord) -> bool
 pub fn age(state: &mut [u8], nodes: u8, window: u16)
     ensures { λ _. ⌜ now (state .exit) ≡ agedBytes nodes window (now (state .entry)) ⌝ }
 {
-    age_holds(state, nodes, window);
+    age_nodes(state, nodes, window);
     next_tick(state);
 }
 
@@ -150,5 +156,6 @@ pub fn keep_answer(state: &mut [u8], row: Row, count: u8) -> u8
     let lost = keep_count(state, row, count);
     let given = Hold { held: true, age: 0 };
     put_hold(state, row.publisher, given);
+    put_byte(state, CAUSES_AT + (row.publisher as usize), Master::NEW);
     lost
 }

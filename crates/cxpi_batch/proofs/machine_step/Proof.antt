@@ -31,7 +31,7 @@ returns c =
     let called = c .before .before .before .before .before .before in
     let given = called .step-on in
     machine-done _ _ _ (given .result) (c .command-number .result) _ (called .before .before .before .before .before .pre)
-    (rw (given .ensures, called .before .event-of .ensures)) (c .command-number .ensures) (let fields = LL.owed S.the-type S′.the-laws (given .result .master) _ (LL.owed Y.the-type Y′.the-laws (given .result) _ (given .ok) .0) in let a = fields .1 .1 .1 .0 .1 .0 .1 in let b = fields .1 .1 .1 .1 .0 .1 .0 .1 in record { holds = sym (length-map (given .result .master .holds) _) ∙ a; counts = sym (length-map (given .result .master .counts) _) ∙ b }) (c .before .before .before .put-master .ensures)
+    (rw (given .ensures, called .before .event-of .ensures)) (c .command-number .ensures) (let fields = LL.owed S.the-type S′.the-laws (given .result .master) _ (LL.owed Y.the-type Y′.the-laws (given .result) _ (given .ok) .0) in let a = fields .1 .1 .1 .0 .1 .0 .1 in let b = fields .1 .1 .1 .1 .0 .1 .0 .1 in let d = fields .1 .1 .1 .1 .1 .0 .1 .0 .1 in record { holds = sym (length-map (given .result .master .holds) _) ∙ a; causes = sym (length-map (given .result .master .causes) _) ∙ b; counts = sym (length-map (given .result .master .counts) _) ∙ d }) (c .before .before .before .put-master .ensures)
 
 pub machine-step-spec : {M : Type 1} → statement M
 machine-step-spec =

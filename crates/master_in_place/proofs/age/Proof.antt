@@ -2,8 +2,8 @@ use borrow.Author.Needs.{needs}
 use Rattle.master_in_place.proofs.age.Statement.{statement}
 use Rattle.master_in_place.proofs.age.Tie as tie
 
-age-holds-requires : tie.Need-age-holds-requires
-age-holds-requires c κs = search needs
+age-nodes-requires : tie.Need-age-nodes-requires
+age-nodes-requires c κs = search needs
 
 next-tick-requires : tie.Need-next-tick-requires
 next-tick-requires c κs = search needs
@@ -15,8 +15,8 @@ returns : tie.Need-returns
 returns c =
     rw (
       c .before .before .next-tick .ensures,
-      c .before .before .before .before .before .before .age-holds .ensures,
+      c .before .before .before .before .before .before .age-nodes .ensures,
     )
 
 pub age-spec : {M : Type 1} → statement M
-age-spec = tie.close (tie.spec age-holds-requires next-tick-requires same-length returns)
+age-spec = tie.close (tie.spec age-nodes-requires next-tick-requires same-length returns)
