@@ -1,7 +1,7 @@
 # What archives are made of and for, for the scripts that source this file, and what the kit's clang is told.
 
 # The crates of C calls: each is a member of the archive by itself, so that a host links what it calls.
-crates="cxpi cxpi_batch"
+crates="cxpi cxpi_batch cxpi_why"
 
 controllers="cortex-m0plus cortex-m3 cortex-m4 cortex-m4f rv32imac"
 

@@ -25,7 +25,7 @@ use Rattle.drill_text.specs.Lines.{moveLine, badLine}
 use Rattle.drill_text.proofs.Lines.{move-short, bad-short}
 use Rattle.drill_feed.specs.declared.Drill.{Drill}
 use Rattle.drill_feed.specs.declared.Held.{Held}
-use Rattle.drill_feed.specs.Feed.{next, lineMoved, worldAfter, lineText, emptyHeld, holdByte, holdAll, heldLine, ended, lineSaid, keeps, byteFed, byteSaid, fed, said, lastSaid, LineEnd, Gives}
+use Rattle.drill_feed.specs.Feed.{next, lineMoved, worldAfter, lineText, emptyHeld, holdByte, holdAll, heldLine, ended, lineSaid, keeps, byteFed, byteSaid, fed, said, lastSaid, LineEnd, Gives, lastFed}
 
 -- a line told: the world w′ after it, and the buffer l′ that was l
 pub record Tells (plan : Plan) (w : World) (number : ℕ) (line : Line) (at : ℕ) (l l′ : List ℕ) (w′ : World) (r : ℕ) : Type 0 where
@@ -184,3 +184,15 @@ last-one d n s = rw (ne-eqb (d .held .count) 0 n) s
 pub said-end : (d : Drill) → said d (10 ∷ []) ≡ lineSaid d
 unfolding said
 said-end d = append-nil (lineSaid d)
+
+pub fed-end : (d : Drill) → fed d (10 ∷ []) ≡ ended d
+unfolding fed
+fed-end d = refl
+
+pub still-fed : (d : Drill) → d .held .count ≡ 0 → d ≡ lastFed d
+unfolding lastFed
+still-fed d e = rw (eq-eqb (d .held .count) 0 e)
+
+pub ended-fed : (d : Drill) → (d .held .count ≡ 0 → ⊥) → ended d ≡ lastFed d
+unfolding lastFed
+ended-fed d n = rw (ne-eqb (d .held .count) 0 n)

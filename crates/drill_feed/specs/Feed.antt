@@ -104,6 +104,9 @@ said d [] = []
 said d (b ∷ bytes) = byteSaid d b ++ said (byteFed d b) bytes
 
 -- the end of the input
+unfoldable pub lastFed : Drill → Drill
+lastFed d = pick (eqb (d .held .count) 0) d (ended d)
+
 unfoldable pub lastSaid : Drill → List ℕ
 lastSaid d = pick (eqb (d .held .count) 0) [] (lineSaid d)
 

@@ -2,9 +2,9 @@
 ghost use mathlib.Core.Path.{_≡_};
 ghost use Prim.Native.Nat.{_≤_};
 ghost use lib.ListN.{length};
-ghost use Rattle.text.specs.Text.{Shown, Counts};
+ghost use Rattle.text.specs.Text.{Counts};
 ghost use Rattle.drill_line.specs.Parse.{parseLine};
-ghost use Rattle.drill_feed.specs.Feed.{emptyHeld, holdAll, heldText, started, fed, said, lastSaid, LineEnd, Gives, GivesFirst};
+ghost use Rattle.drill_feed.specs.Feed.{emptyHeld, holdAll, heldText, started, fed, said, lastFed, lastSaid, LineEnd, Gives, GivesFirst};
 use bus::World;
 use drill_line::Line;
 use drill_line::on_drill_bus;
@@ -165,16 +165,23 @@ impl Drill {
     }
 
     // The end of the input: a last line that lacks its LF.
-    pub fn finish(self, out: &mut [u8]) -> usize
-        ensures { λ r. ⌜ Shown (lastSaid self) (now (out .entry)) (now (out .exit)) r ⌝ }
-        ensures { λ r. ⌜ Counts r (now (out .exit)) ⌝ }
+    pub fn finish(self, out: &mut [u8]) -> Fed
+        ensures { λ r. ⌜ GivesFirst (lastFed self) (lastSaid self) (now (out .entry)) (now (out .exit)) r ⌝ }
+        ensures { λ r. ⌜ Counts (r .length) (now (out .exit)) ⌝ }
     {
         let held = self.held;
         if held.count == 0 {
-            return 0;
+            return Fed {
+                drill: self,
+                length: 0,
+            };
         }
         // One loop over lines alone: the compiler then makes one function of all and leaves copies of the world out.
         let line = self.feed_from(b"\n", out);
-        below(&out[..], line.length)
+        let drill = line.drill;
+        Fed {
+            drill,
+            length: below(&out[..], line.length),
+        }
     }
 }

@@ -5,6 +5,9 @@ ghost use lib.ListN.{length};
 ghost use Rattle.reader.specs.Read.{readSet};
 use drill_feed::Drill;
 use libc::STDOUT_FILENO;
+use master_reason::explain;
+use text::below;
+use why_text::append_why;
 
 struct Turn {
     drill: Drill,
@@ -32,13 +35,15 @@ fn read_on(file: i32, drill: Drill, input: &mut [u8], out: &mut [u8]) -> Turn {
     Turn { drill: next, more }
 }
 
-fn end(drill: Drill, out: &mut [u8]) {
-    let length = drill.finish(out);
+fn end(drill: Drill, out: &mut [u8]) -> Drill {
+    let fed = drill.finish(out);
+    let length = fed.length;
     io::write_all(STDOUT_FILENO, &out[..length]);
+    fed.drill
 }
 
 // A proved loop has to end, and nothing says that the input does: so the turns are counted down, from a number that no run uses up.
-fn run(file: i32, start: Drill) {
+fn run(file: i32, start: Drill) -> Drill {
     let mut space = input_room();
     let input: &mut [u8] = &mut space;
     let mut room = io::large_buffer();
@@ -49,11 +54,11 @@ fn run(file: i32, start: Drill) {
         let turn = read_on(file, drill, input, out);
         drill = turn.drill;
         if !turn.more {
-            end(drill, out);
-            return;
+            return end(drill, out);
         }
         turns -= 1;
     }
+    drill
 }
 
 // Runs the moves in a file under a set; a refused set is named instead. Answers the refusal.
@@ -64,6 +69,28 @@ pub fn drill(set: &[u8], file: i32) -> u8
     let plan = answer.plan;
     if answer.refusal == 0 {
         run(file, Drill::start(plan));
+    }
+    answer.refusal
+}
+
+// One line more, by the master that the moves left.
+fn print_why(drill: Drill) {
+    let mut room = io::large_buffer();
+    let out: &mut [u8] = &mut room;
+    let world = drill.world;
+    let plan = drill.plan;
+    let length = append_why(out, 0, explain(plan, world.master));
+    io::write_all(STDOUT_FILENO, &out[..below(&out[..], length)]);
+}
+
+// The same as `drill`, and why the master is awake.
+pub fn why(set: &[u8], file: i32) -> u8
+    ensures { λ r. ⌜ r ≡ readSet (now (set .entry)) .refusal ⌝ }
+{
+    let answer = set_file::read_plan(set);
+    let plan = answer.plan;
+    if answer.refusal == 0 {
+        print_why(run(file, Drill::start(plan)));
     }
     answer.refusal
 }

@@ -15,6 +15,7 @@
 ghost use mathlib.Core.Path.{_≡_};
 ghost use Rattle.bus.specs.World.{powerOn};
 ghost use Rattle.demand.specs.Demand3.{Demand3};
+ghost use Rattle.demand.specs.Reasons.{ReasonShown};
 ghost use Rattle.runs.specs.Records.{movesOf};
 ghost use Rattle.runs.specs.Runs.{stepOf, ranTo, ranOver, runOf};
 use bus::Moved;
@@ -89,9 +90,9 @@ fn run_all(plan: Plan, moves: &[u8]) -> Ran
     Ran { refusal: 0, world }
 }
 
-// The world after a list of moves; demand 3 holds of it. 4 to 8 for a refused plan, 15 for bytes that are no list of moves.
+// The world after a list of moves; demand 3 holds of it, and the reason told of its master is the one that the list shows. 4 to 8 for a refused plan, 15 for bytes that are no list of moves.
 pub fn run(plan: Plan, moves: &[u8]) -> Ran
-    ensures { λ r. ⌜ (r ≡ runOf plan (now (moves .entry))) × (r .refusal ≡ 0 → Demand3 plan (movesOf (now (moves .entry)))) ⌝ }
+    ensures { λ r. ⌜ (r ≡ runOf plan (now (moves .entry))) × (r .refusal ≡ 0 → Demand3 plan (movesOf (now (moves .entry))) × ReasonShown plan (movesOf (now (moves .entry)))) ⌝ }
 {
     let refusal = plan_refusal(plan);
     if refusal == 0 {

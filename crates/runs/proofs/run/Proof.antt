@@ -2,6 +2,7 @@
 use mathlib.Core.Path.{sym, ap, _∙_}
 use borrow.Author.Tests.{eq-eqb, ne-eqb}
 use Rattle.demand.proofs.Holds.{demand3}
+use Rattle.demand.proofs.Reasons.{reasons}
 use Rattle.runs.specs.declared.Ran.{Ran}
 use borrow.Author.Needs.{needs}
 use Rattle.runs.proofs.run.Statement.{statement}
@@ -19,7 +20,7 @@ refused-requires c κs = search needs
 returns : tie.Need-returns
 returns c = (
   rw (c .run-all .ensures, ← c .before .before .plan-refusal .ensures, eq-eqb _ _ (c .before .if1 .taken)),
-  λ e. demand3 _ (sym (c .before .before .plan-refusal .ensures) ∙ c .before .if1 .taken) _,
+  λ e. let ok = sym (c .before .before .plan-refusal .ensures) ∙ c .before .if1 .taken in (demand3 _ ok _, reasons _ ok _),
 )
 
 returns-2 : tie.Need-returns-2

@@ -1,13 +1,16 @@
-use mathlib.Core.Path.{refl}
+-- A held line ends, or there is none.
+use mathlib.Core.Path.{refl, _∙_}
 use native.Mathlib.Omega.{arith}
 use Rattle.text.proofs.Appends.{appended-as, shown}
-use Rattle.drill_feed.proofs.Feeding.{last-none, last-one, said-end}
+use Rattle.drill_feed.proofs.Feeding.{last-none, last-one, said-end, fed-end, still-fed, ended-fed}
 use borrow.Author.Needs.{needs}
 use Rattle.drill_feed.proofs.Drill.finish.Statement.{statement}
 use Rattle.drill_feed.proofs.Drill.finish.Tie as tie
 
 returns : tie.Need-returns
-returns c = (last-none (c .before .before .before .before .args .self) _ (c .if1 .taken), (omega arith, refl))
+returns c =
+    let d = c .before .before .before .before .args .self in
+    (record { state = still-fed d (c .if1 .taken); shown = last-none d _ (c .if1 .taken) }, (omega arith, refl))
 
 slice-aggregate-feed-from : tie.Need-slice-aggregate-feed-from
 slice-aggregate-feed-from c = search needs
@@ -23,11 +26,20 @@ same-length c = search needs
 
 returns-2 : tie.Need-returns-2
 returns-2 c = (
-  last-one (c .before .before .before .before .before .before .before .before .before .before .before .args .self) (c .before .before .before .before .before .before .before .if1 .left)
-      (shown (omega arith) (appended-as (said-end _) (c .before .before .before .before .feed-from .ensures .appended)) (c .below .ensures .0)),
+  record {
+    state = c .before .before .before .before .before .feed-from .ensures .state ∙ fed-end _ ∙ ended-fed (c .before .before .before .before .before .before .before .before .before .before .before .before .args .self) (c .before .before .before .before .before .before .before .before .if1 .left);
+    shown = last-one (c .before .before .before .before .before .before .before .before .before .before .before .before .args .self) (c .before .before .before .before .before .before .before .before .if1 .left) (shown (omega (arith, c .before .before .before .before .before .before .before .before .before .before .before .before .good .1 .0 .0)) (appended-as (said-end _) (c .before .before .before .before .before .feed-from .ensures .appended)) (c .below .ensures .0));
+  },
   c .below .ensures .1,
 )
 
 pub finish-spec : {M : Type 1} → statement M
 finish-spec =
-    tie.close (tie.spec returns slice-aggregate-feed-from feed-from-requires below-requires same-length returns-2)
+    tie.close
+    (tie.spec
+    returns
+    slice-aggregate-feed-from
+    feed-from-requires
+    below-requires
+    same-length
+    returns-2)
