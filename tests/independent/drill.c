@@ -1,7 +1,8 @@
-/* Document 01's drill over the independent implementation: reads plan.set in the working folder and moves from standard input.
+/* Document 01's drill over the independent implementation: reads plan.set in the working folder and moves from standard input. With the
+ * argument why it prints document 02's line more after the moves (W-205).
  *
  * Compile: gcc -std=c11 -O2 -Wall -Wextra -Werror -pedantic tests/independent/drill.c tests/independent/reference.c -o drill
- * Run:     ./drill < moves (tests/independent/check_drill.sh runs document 01's twelve) */
+ * Run:     ./drill [why] < moves (tests/independent/check_drill.sh runs document 01's twelve) */
 #include <inttypes.h>
 #include <stdio.h>
 #include <string.h>
@@ -326,9 +327,28 @@ static uint32_t read_plan(reference_plan *plan) {
     return failed ? 1 : reference_read(set, length, plan);
 }
 
-int main(void) {
+static void print_why(const network *bus) {
+    static const char *const words[] = {"none", "sleep", "owed", "own"};
+    static const char *const causes[] = {"new", "refused", "aged", "damaged", "wake"};
+    reference_reason reason;
+    uint32_t refusal = reference_master_why(&bus->plan, &bus->master, &reason);
+    if (refusal != 0) {
+        printf("why %u\n", (unsigned)refusal);
+    } else if (reason.kind == REFERENCE_REASON_NODE) {
+        printf("why %u %s\n", (unsigned)reason.node, causes[reason.cause]);
+    } else {
+        printf("why %s\n", words[reason.kind]);
+    }
+}
+
+int main(int count, char **arguments) {
     static network bus;
     line read;
+    bool asked_why = count == 2 && strcmp(arguments[1], "why") == 0;
+    if (count > 1 && !asked_why) {
+        fprintf(stderr, "usage: %s [why] < moves\n", arguments[0]);
+        return 2;
+    }
     uint32_t refusal = read_plan(&bus.plan);
     if (refusal != 0) {
         printf("set %u\n", (unsigned)refusal);
@@ -345,6 +365,9 @@ int main(void) {
         } else {
             printf("%" PRIu64 " ?\n", number);
         }
+    }
+    if (asked_why) {
+        print_why(&bus);
     }
     return 0;
 }

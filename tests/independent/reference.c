@@ -1,4 +1,4 @@
-/* Document 01 in plain C, mended by W-204: the reader and writer of release sets, the master machine and the node machine.
+/* Document 01 in plain C, mended by W-204 and with W-205: the reader and writer of release sets, the master machine and the node machine.
  *
  * Compile: gcc -std=c11 -O2 -Wall -Wextra -Werror -pedantic -c tests/independent/reference.c */
 #include "reference.h"
@@ -602,6 +602,42 @@ uint32_t reference_master_step(const reference_plan *plan, reference_master *mas
         return 11;
     }
     return reference_master_act(plan, master, event, reply);
+}
+
+/* "the first true reason of these: sleep under way; result of a called-back message owed; own permission missing; or the lowest node
+ * not held" */
+static reference_reason first_reason(const reference_plan *plan, const reference_master *master) {
+    if (master->phase == REFERENCE_SENDING || master->phase == REFERENCE_CLOSING) {
+        return (reference_reason){.kind = REFERENCE_REASON_SLEEP};
+    }
+    if (master->phase == REFERENCE_WITHDRAWN) {
+        return (reference_reason){.kind = REFERENCE_REASON_OWED};
+    }
+    if (!master->own_permission) {
+        return (reference_reason){.kind = REFERENCE_REASON_OWN};
+    }
+    for (uint8_t number = 0; number < plan->node_count; number++) {
+        if (!master->permissions[number].held) {
+            return (reference_reason){.kind = REFERENCE_REASON_NODE, .node = number, .cause = master->causes[number]};
+        }
+    }
+    return (reference_reason){.kind = REFERENCE_REASON_NONE};
+}
+
+uint32_t reference_master_why(const reference_plan *plan, const reference_master *master, reference_reason *reason) {
+    *reason = (reference_reason){0};
+    uint32_t refusal = reference_plan_refusal(plan);
+    if (refusal != 0) {
+        return refusal;
+    }
+    if (!reference_master_in_range(plan, master)) {
+        return 11;
+    }
+    if (master->state != REFERENCE_NORMAL) {
+        return 16;
+    }
+    *reason = first_reason(plan, master);
+    return 0;
 }
 
 /* The node */

@@ -107,6 +107,15 @@ typedef struct {
     uint8_t node; /* that 20 names */
 } reference_master_reply;
 
+/* Document 02's reasons why the bus stays awake, first before last. */
+enum { REFERENCE_REASON_NONE, REFERENCE_REASON_SLEEP, REFERENCE_REASON_OWED, REFERENCE_REASON_OWN, REFERENCE_REASON_NODE };
+
+typedef struct {
+    uint8_t kind;
+    uint8_t node;  /* with REFERENCE_REASON_NODE, else 0 */
+    uint8_t cause; /* likewise */
+} reference_reason;
+
 typedef struct {
     uint8_t state;
     uint8_t permission;
@@ -172,6 +181,9 @@ uint32_t reference_master_step(const reference_plan *plan, reference_master *mas
 /* The same for a plan and a state that are known to be right. */
 uint32_t reference_master_act(const reference_plan *plan, reference_master *master, const reference_master_event *event,
                               reference_master_reply *reply);
+
+/* Why the master's bus stays awake. Returns 0 or the refusal, 4 to 8, 11 or 16, which leaves a reason of zeros. */
+uint32_t reference_master_why(const reference_plan *plan, const reference_master *master, reference_reason *reason);
 
 void reference_node_power_on(reference_node *node);
 bool reference_node_in_range(const reference_plan *plan, const reference_node *node);
