@@ -16,6 +16,7 @@
  *   cxpi_*_power_on       10 for the state buffer
  *   cxpi_*_step           4 to 8 of the plan record; 10 for the reply buffer; 11; 15; 16; the rest by number: 12, 13, 14, 17 to 21
  *   cxpi_master_batch     22; the numbers of a step stand in the reply records, in a step's order
+ *   cxpi_master_why       4 to 8 of the plan record; 10 for the reply buffer; 11; 16
  *   cxpi_node_configure   11 for another length of the identity; 23; 24; 10 for the answer buffer
  *
  * A plan record of another length than CXPI_PLAN_LENGTH is taken for the all-zero record, which is 4. A state of another length is 11,
@@ -29,6 +30,7 @@
  *   cxpi_*_step           in the reply zeros, which are no command and none lost, but for the node that 20 names; the state as it was,
  *                         but that 13 and 14 change the master's
  *   cxpi_master_batch     after 22 every byte as it was; an event that is refused leaves what its step leaves, and those after it run
+ *   cxpi_master_why       in the reply zeros, after 10 the reply buffer as it was
  *   cxpi_node_configure   length 0, address and answer buffer as they were
  *
  * A buffer that is too short is never written, and bytes past what is written stay in every call.
@@ -46,7 +48,7 @@ extern "C" {
 #endif
 
 /* The version of calls and layouts, which each change of either raises. A host compares the archive's with its header's at start. */
-#define CXPI_VERSION 3
+#define CXPI_VERSION 4
 
 uint32_t cxpi_version(void);
 
@@ -67,7 +69,7 @@ uint32_t cxpi_version(void);
 #define CXPI_DAMAGED 13       /* answer's result is not 0; the master lets its publisher's permission go and calls back */
 #define CXPI_WRONG_LENGTH 14  /* answer's length is not the row's; the same */
 #define CXPI_NO_EVENT 15      /* bytes that are no event, a count above 3 or a ReqId above 127 */
-#define CXPI_NEEDS_NORMAL 16  /* event needs Normal */
+#define CXPI_NEEDS_NORMAL 16  /* event needs Normal, or the question why */
 #define CXPI_NO_RESULT_DUE 17 /* no send result awaited */
 #define CXPI_UNDER_WAY 18     /* sleep message already under way */
 #define CXPI_NOT_PERMITTED 19 /* master's own permission is no */
@@ -228,6 +230,23 @@ struct cxpi_master_reply {
 uint32_t cxpi_master_batch(const uint8_t *plan, size_t plan_length, uint8_t *state, size_t state_length,
                            const struct cxpi_master_event *events, size_t event_count, struct cxpi_master_reply *replies,
                            size_t reply_count);
+
+/* The reply of cxpi_master_why. */
+#define CXPI_REASON_LENGTH 3
+#define CXPI_REASON_AT 0       /* CXPI_REASON_NONE to CXPI_REASON_NODE */
+#define CXPI_REASON_NODE_AT 1  /* with CXPI_REASON_NODE the lowest node whose permission is not held, else 0 */
+#define CXPI_REASON_CAUSE_AT 2 /* with CXPI_REASON_NODE its cause, CXPI_CAUSE_NEW to CXPI_CAUSE_WAKE, else 0 */
+
+/* Why the bus is still awake: the first of these that holds, from CXPI_REASON_SLEEP on. 5 is kept for a set whose panels never sleep. */
+#define CXPI_REASON_NONE 0  /* nothing stands in the way: the next sleep ask is accepted */
+#define CXPI_REASON_SLEEP 1 /* sleep is under way: Sending or Closing */
+#define CXPI_REASON_OWED 2  /* the result of a called-back sleep message is owed: Withdrawn */
+#define CXPI_REASON_OWN 3   /* the master's own permission is missing */
+#define CXPI_REASON_NODE 4  /* a node's permission is not held */
+
+/* Why a master in Normal, by its stored state, is not asleep. The state is only read. */
+uint32_t cxpi_master_why(const uint8_t *plan, size_t plan_length, const uint8_t *state, size_t state_length, uint8_t *reply,
+                         size_t reply_length);
 
 /* A node's state. A state is in range where each field is within its limit, by the plan's times. */
 #define CXPI_NODE_LENGTH 143

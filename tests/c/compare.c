@@ -21,10 +21,10 @@ static void put_two(uint8_t *bytes, uint32_t number) {
 
 /* What came */
 
-enum { READ, WRITE, MASTER_POWER_ON, NODE_POWER_ON, MASTER_STEP, NODE_STEP, MASTER_BATCH, EXPORTS };
+enum { READ, WRITE, MASTER_POWER_ON, NODE_POWER_ON, MASTER_STEP, NODE_STEP, MASTER_BATCH, MASTER_WHY, EXPORTS };
 
 static const char *const export_names[EXPORTS] = {"cxpi_read",        "cxpi_write",     "cxpi_master_power_on", "cxpi_node_power_on",
-                                                  "cxpi_master_step", "cxpi_node_step", "cxpi_master_batch"};
+                                                  "cxpi_master_step", "cxpi_node_step", "cxpi_master_batch",    "cxpi_master_why"};
 
 enum { NUMBERS = 23, OTHER_NUMBER = NUMBERS };
 
@@ -37,6 +37,7 @@ static const int expected_numbers[EXPORTS][NUMBERS] = {
     {0, 4, 5, 6, 7, 8, 10, 11, 12, 13, 14, 15, 16, 17, 18, 19, 20, -1},
     {0, 4, 5, 6, 7, 8, 10, 11, 12, 15, 16, 21, -1},
     {0, 22, -1},
+    {0, 4, 5, 6, 7, 8, 10, 11, 16, -1},
 };
 
 static uint64_t came[EXPORTS][OTHER_NUMBER + 1];
@@ -46,6 +47,9 @@ static uint64_t commands[2][4];         /* of the master, of a node */
 static uint64_t lost[4];
 static uint64_t round_trips;
 static uint64_t batch_events; /* in lists that were not refused */
+static uint64_t reasons[5];
+static uint64_t explained[REFERENCE_NODES]; /* nodes that were the reason */
+static uint64_t causes[5];                  /* of these */
 static uint64_t differences;
 
 static void count_result(int export, uint32_t result) {
@@ -803,6 +807,36 @@ static void compare_master_batch(network *walked) {
     }
 }
 
+/* Why the bus is awake, asked of a walking state or of one made for this question alone */
+
+static void count_why(uint32_t wanted) {
+    const uint8_t *reply = lent_bytes(&reference_reply);
+    count_result(MASTER_WHY, wanted);
+    if (wanted == CXPI_DONE) {
+        reasons[reply[0]]++;
+        if (reply[0] == CXPI_REASON_NODE) {
+            explained[reply[1]]++;
+            causes[reply[2]]++;
+        }
+    }
+}
+
+static void compare_master_why(const network *walked) {
+    static step made; /* without an event */
+    choose_plan(&made, walked->plan);
+    choose_state(&made, &walked->plan->record, walked->master, true);
+    choose_reply(&made, CXPI_REASON_LENGTH);
+    lend_step(&made);
+    uint32_t got = cxpi_master_why(lent_bytes(&subject_step_plan), made.plan_length, lent_bytes(&subject_state), made.state_length,
+                                   lent_bytes(&subject_reply), made.reply_length);
+    uint32_t wanted = reference_cxpi_master_why(lent_bytes(&reference_step_plan), made.plan_length, lent_bytes(&reference_state),
+                                                made.state_length, lent_bytes(&reference_reply), made.reply_length);
+    count_why(wanted);
+    if (got != wanted || !step_same()) {
+        differ(MASTER_WHY, got, wanted);
+    }
+}
+
 static void compare_steps(uint64_t steps) {
     make_pool();
     for (size_t place = 0; place < NETWORKS; place++) {
@@ -820,6 +854,7 @@ static void compare_steps(uint64_t steps) {
         } else {
             compare_node_step(walked);
         }
+        compare_master_why(walked);
     }
 }
 
@@ -862,6 +897,9 @@ static bool print_table(bool sets, bool steps) {
         all = print_counts("master's commands", commands[0], 4) && all;
         all = print_counts("lost 0 to 3", lost, 4) && all;
         all = print_counts("node's commands", commands[1], 3) && all;
+        all = print_counts("reasons", reasons, 5) && all;
+        all = print_counts("nodes explained", explained, REFERENCE_NODES) && all;
+        all = print_counts("their causes", causes, 5) && all;
     }
     return all;
 }
@@ -879,7 +917,7 @@ int main(int count, char **arguments) {
     compare_sets(sets);
     compare_steps(steps);
     bool all = print_table(sets > 0, steps > 0);
-    printf("%" PRIu64 " steps, %" PRIu64 " events in lists, %" PRIu64 " sets, seed %" PRIu64 ": %" PRIu64 " differences\n", steps,
+    printf("%" PRIu64 " steps and explanations, %" PRIu64 " events in lists, %" PRIu64 " sets, seed %" PRIu64 ": %" PRIu64 " differences\n", steps,
            batch_events, sets, seed, differences);
     return all && differences == 0 ? EXIT_SUCCESS : EXIT_FAILURE;
 }

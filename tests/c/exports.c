@@ -485,6 +485,30 @@ static void expect_call(const char *what, const call *made, uint32_t result, con
           what);
 }
 
+/* The same lent buffers for the question why, whose reply held a reason of before. */
+static uint32_t ask_why(const call *made) {
+    static const uint8_t old_reason[3] = {3, 15, 4};
+    lent_fill(&lent_plan, made->plan, made->plan_length);
+    lent_fill(&lent_state, made->state, made->state_length);
+    lent_paint(&lent_reply, made->reply_length);
+    memcpy(lent_bytes(&lent_reply), old_reason, made->reply_length < 3 ? made->reply_length : 3);
+    wanted_plan = lent_plan;
+    wanted_state = lent_state;
+    wanted_reply = lent_reply;
+    return cxpi_master_why(lent_bytes(&lent_plan), made->plan_length, lent_bytes(&lent_state), made->state_length,
+                           lent_bytes(&lent_reply), made->reply_length);
+}
+
+/* The reply is these three bytes; a buffer that is too short for them stays. */
+static void expect_why(const char *what, const call *made, uint32_t result, uint8_t reason, uint8_t node, uint8_t cause) {
+    uint32_t got = ask_why(made);
+    if (made->reply_length >= 3) {
+        apply(EDITS({0, reason}, {1, node}, {2, cause}), lent_bytes(&wanted_reply));
+    }
+    check(got == result, what);
+    check(lent_same(&lent_plan, &wanted_plan) && lent_same(&lent_state, &wanted_state) && lent_same(&lent_reply, &wanted_reply), what);
+}
+
 /* The master in Normal, Open, nothing held, no counts; before has what differs. */
 static const uint8_t *master_with(const edit *before) {
     static uint8_t state[CXPI_MASTER_LENGTH];
@@ -666,9 +690,9 @@ static void test_late_sleep_ask(void) {
     expect_call("edge 7: the same after one more tick", &made, 20, NONE, NONE);
 }
 
-/* 20 names the lowest node whose permission is not held: each of sixteen, with those above it held and not held. */
-static void test_named_nodes(void) {
-    uint8_t plan[CXPI_PLAN_LENGTH] = {0};
+/* Plan T with sixteen nodes, each with a row of its own. */
+static void make_plan_of_sixteen(uint8_t *plan) {
+    memset(plan, 0, CXPI_PLAN_LENGTH);
     memcpy(plan, plan_t, 19);
     apply(EDITS({2, 16}, {4, 16}), plan);
     for (uint8_t node = 0; node < 16; node++) {
@@ -677,6 +701,12 @@ static void test_named_nodes(void) {
         memcpy(plan + 19 + 4 * node, entry, 4);
         memcpy(plan + 83 + 4 * node, row, 4);
     }
+}
+
+/* 20 names the lowest node whose permission is not held: each of sixteen, with those above it held and not held. */
+static void test_named_nodes(void) {
+    uint8_t plan[CXPI_PLAN_LENGTH];
+    make_plan_of_sixteen(plan);
     for (uint8_t named = 0; named < 16; named++) {
         for (uint8_t above = 0; above < 2; above++) {
             uint8_t state[CXPI_MASTER_LENGTH];
@@ -731,6 +761,129 @@ static void test_master_others(void) {
     end_group("master: other events");
 }
 
+/* Why the bus is awake, in the reply buffer of three bytes and in a longer one */
+
+static void expect_in_both(const char *what, const edit *before, uint32_t result, uint8_t reason, uint8_t node, uint8_t cause) {
+    call made = master_call(before, TICK);
+    expect_why(what, &made, result, reason, node, cause);
+    made.reply_length = 50;
+    expect_why(what, &made, result, reason, node, cause);
+}
+
+static void master_says(const char *what, const edit *before, uint8_t reason, uint8_t node, uint8_t cause) {
+    expect_in_both(what, before, 0, reason, node, cause);
+}
+
+static void master_says_nothing(const char *what, const edit *before, uint32_t result) {
+    expect_in_both(what, before, result, 0, 0, 0);
+}
+
+static void test_reasons(void) {
+    master_says("none", EDITS({M_OWN, 1}, {M_HELD_0, 1}, {M_HELD_1, 1}), 0, 0, 0);
+    master_says("none at age W", EDITS({M_OWN, 1}, {M_HELD_0, 1}, {M_AGE_0, 10}, {M_HELD_1, 1}, {M_AGE_1, 10}), 0, 0, 0);
+    master_says("Sending", EDITS({M_PHASE, 1}, {M_OWN, 1}, {M_HELD_0, 1}, {M_HELD_1, 1}), 1, 0, 0);
+    master_says("Sending before own and nodes", EDITS({M_PHASE, 1}, {M_CAUSE_0, 3}), 1, 0, 0);
+    master_says("Closing", EDITS({M_PHASE, 3}, {M_DELAY, 1}, {M_OWN, 1}, {M_HELD_0, 1}, {M_HELD_1, 1}), 1, 0, 0);
+    master_says("Closing before own and nodes", EDITS({M_PHASE, 3}, {M_CAUSE_1, 2}), 1, 0, 0);
+    master_says("Withdrawn", EDITS({M_PHASE, 2}, {M_OWN, 1}, {M_HELD_0, 1}, {M_HELD_1, 1}), 2, 0, 0);
+    master_says("Withdrawn before own", EDITS({M_PHASE, 2}, {M_HELD_0, 1}, {M_HELD_1, 1}), 2, 0, 0);
+    master_says("Withdrawn before nodes", EDITS({M_PHASE, 2}, {M_OWN, 1}, {M_CAUSE_0, 1}), 2, 0, 0);
+    master_says("own", EDITS({M_HELD_0, 1}, {M_HELD_1, 1}), 3, 0, 0);
+    master_says("own before nodes", EDITS({M_CAUSE_0, 4}, {M_CAUSE_1, 1}), 3, 0, 0);
+    for (uint8_t cause = 0; cause <= 4; cause++) {
+        uint8_t other = (uint8_t)(4 - cause);
+        master_says("node 0 alone", EDITS({M_OWN, 1}, {M_HELD_1, 1}, {M_CAUSE_0, cause}), 4, 0, cause);
+        master_says("node 1 alone", EDITS({M_OWN, 1}, {M_HELD_0, 1}, {M_CAUSE_1, cause}), 4, 1, cause);
+        master_says("the lower of both", EDITS({M_OWN, 1}, {M_CAUSE_0, cause}, {M_CAUSE_1, other}), 4, 0, cause);
+    }
+    master_says_nothing("in Standby", EDITS({M_STATE, 1}, {M_DELAY, 1}, {M_OWN, 1}), 16);
+    master_says_nothing("in Sleep", EDITS({M_STATE, 2}), 16);
+    master_says_nothing("in Sleep, all held", EDITS({M_STATE, 2}, {M_OWN, 1}, {M_HELD_0, 1}, {M_HELD_1, 1}), 16);
+    master_says_nothing("a cause above 4", EDITS({M_OWN, 1}, {M_HELD_0, 1}, {M_CAUSE_1, 5}), 11);
+    master_says_nothing("a cause of a node held", EDITS({M_OWN, 1}, {M_HELD_0, 1}, {M_CAUSE_0, 1}), 11);
+    master_says_nothing("a cause from N on", EDITS({M_OWN, 1}, {M_CAUSE_1 + 1, 1}), 11);
+    master_says_nothing("a cause in Sleep: 11 before 16", EDITS({M_STATE, 2}, {M_CAUSE_0, 1}), 11);
+    master_says_nothing("no state: 11 before 16", EDITS({M_STATE, 3}), 11);
+    end_group("why: reasons");
+}
+
+/* Each of sixteen nodes as the lowest not held, with each cause, those above it held or not. */
+static void test_reasons_of_sixteen(void) {
+    uint8_t plan[CXPI_PLAN_LENGTH];
+    make_plan_of_sixteen(plan);
+    for (uint8_t named = 0; named <= 16; named++) {
+        for (uint8_t cause = 0; cause <= 4; cause++) {
+            for (uint8_t above = 0; above < 2; above++) {
+                uint8_t state[CXPI_MASTER_LENGTH];
+                call made = master_call(NONE, TICK);
+                memcpy(state, master_with(EDITS({M_OWN, 1})), sizeof state);
+                for (uint8_t node = 0; node < 16; node++) {
+                    state[M_HELD_0 + 3 * node] = node < named || (node > named && above);
+                    state[M_CAUSE_0 + node] = node == named ? cause : node > named && !above ? 4 - cause : 0;
+                }
+                made.plan = plan;
+                made.state = state;
+                expect_why("the lowest of sixteen", &made, 0, named < 16 ? 4 : 0, named & 15, named < 16 ? cause : 0);
+            }
+        }
+    }
+    end_group("why: sixteen nodes");
+}
+
+/* The order of judging: 4 to 8, 10, 11, 16, and other lengths of plan, state and reply buffer. */
+static void test_reason_order(void) {
+    uint8_t plan[CXPI_PLAN_LENGTH];
+    static uint8_t bytes[LENT_ROOM];
+    const call asked = master_call(EDITS({M_OWN, 1}), TICK);
+    for (size_t place = 0; place < BROKEN_PLANS; place++) {
+        call made = asked;
+        break_plan(&broken_plans[place], plan);
+        made.plan = plan;
+        expect_why(broken_plans[place].what, &made, broken_plans[place].refusal, 0, 0, 0);
+        made.state_length = 0;
+        expect_why("4 to 8 before 11", &made, broken_plans[place].refusal, 0, 0, 0);
+        made.reply_length = 2;
+        expect_why("4 to 8 before 10", &made, broken_plans[place].refusal, 0, 0, 0);
+    }
+    memcpy(bytes, plan_u, sizeof plan_u);
+    for (size_t length = 0; length <= 1200; length++) {
+        call made = asked;
+        if (length != CXPI_PLAN_LENGTH) {
+            made.plan = bytes;
+            made.plan_length = length;
+            expect_why("another length of a plan", &made, 4, 0, 0, 0);
+            made.reply_length = 0;
+            expect_why("another length of a plan before 10", &made, 4, 0, 0, 0);
+        }
+    }
+    memset(bytes, 0, sizeof bytes);
+    for (size_t length = 0; length < 3; length++) {
+        call made = asked;
+        made.reply_length = length;
+        expect_why("short reply buffer", &made, 10, 0, 0, 0);
+        made.state_length = 0;
+        expect_why("10 before 11", &made, 10, 0, 0, 0);
+        made = master_call(EDITS({M_STATE, 2}), TICK);
+        made.reply_length = length;
+        expect_why("10 before 16", &made, 10, 0, 0, 0);
+    }
+    for (size_t length = 0; length <= 400; length++) {
+        call made = asked;
+        made.state = bytes;
+        made.state_length = length;
+        if (length != CXPI_MASTER_LENGTH) {
+            expect_why("another length of a state", &made, 11, 0, 0, 0);
+        }
+    }
+    memcpy(plan, plan_u, sizeof plan);
+    memset(plan + 27, 0xEE, 56);
+    memset(plan + 95, 18, 496);
+    call made = master_call(EDITS({M_OWN, 1}, {M_HELD_0, 1}, {M_CAUSE_1, 2}), TICK);
+    made.plan = plan;
+    expect_why("unused places of a plan", &made, 0, 4, 1, 2);
+    end_group("why: order and lengths");
+}
+
 /* Length of each kind of event, by include/cxpi.h. */
 static const size_t master_event_lengths[] = {1, 9, 1, 1, 2, 1, 2};
 static const size_t node_event_lengths[] = {2, 1, 1, 2, 1, 2, 2};
@@ -768,13 +921,15 @@ static void test_no_events(void) {
     end_group("no events");
 }
 
-/* Whether a tick is refused 11 from that state and otherwise done. */
+/* Whether a tick, and the question why, are refused 11 from that state; else the one is done, and the other outside Normal is 16. */
 static void master_state_is(const char *what, bool right, const edit *before) {
     call made = master_call(before, TICK);
     if (right) {
         check(make_call(&made) == 0, what);
+        check(ask_why(&made) == (made.state[M_STATE] == 0 ? 0 : 16), what);
     } else {
         expect_call(what, &made, 11, NONE, NONE);
+        expect_why(what, &made, 11, 0, 0, 0);
     }
 }
 
@@ -1148,7 +1303,7 @@ int main(int count, char **arguments) {
     if (count > 1) {
         test_file(arguments[1]);
     }
-    check(cxpi_version() == 3, "version");
+    check(cxpi_version() == 4, "version");
     end_group("version");
     test_read_lengths();
     test_read_bytes();
@@ -1165,6 +1320,9 @@ int main(int count, char **arguments) {
     test_named_nodes();
     test_master_others();
     test_master_range();
+    test_reasons();
+    test_reasons_of_sixteen();
+    test_reason_order();
     test_node_tick();
     test_node_others();
     test_node_range();

@@ -12,6 +12,7 @@ uint32_t (*write_set)(const uint8_t *, size_t, uint8_t *, size_t, uint16_t *) = 
 uint32_t (*master_power_on)(uint8_t *, size_t) = cxpi_master_power_on;
 uint32_t (*node_power_on)(uint8_t *, size_t) = cxpi_node_power_on;
 uint32_t (*master_step)(const uint8_t *, size_t, uint8_t *, size_t, const uint8_t *, size_t, uint8_t *, size_t) = cxpi_master_step;
+uint32_t (*master_why)(const uint8_t *, size_t, const uint8_t *, size_t, uint8_t *, size_t) = cxpi_master_why;
 const char *(*refusal_text)(uint32_t) = cxpi_refusal_text;
 uint32_t (*node_step)(const uint8_t *, size_t, uint8_t, uint8_t *, size_t, const uint8_t *, size_t, uint8_t *, size_t) = cxpi_node_step;
 uint32_t (*node_configure)(const uint8_t *, size_t, uint8_t *, const uint8_t *, size_t, uint8_t *, size_t, uint8_t *) = cxpi_node_configure;

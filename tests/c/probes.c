@@ -293,6 +293,34 @@ static void probe_causes(void) {
     state[CXPI_MASTER_CAUSES_AT + 1] = CXPI_CAUSE_WAKE;
 }
 
+/* The stored state is explained in a reply that is painted before. */
+static uint32_t explained(size_t room) {
+    memset(reply, PAINT, sizeof reply);
+    return cxpi_master_why(plan, CXPI_PLAN_LENGTH, state, CXPI_MASTER_LENGTH, reply, room);
+}
+
+static bool reason_is(uint8_t reason, uint8_t node, uint8_t cause) {
+    return explained(sizeof reply) == CXPI_DONE && reply[CXPI_REASON_AT] == reason && reply[CXPI_REASON_NODE_AT] == node &&
+           reply[CXPI_REASON_CAUSE_AT] == cause;
+}
+
+/* Goes on from there: permitted, and no node is held. */
+static void probe_reasons(void) {
+    IS(reason_is(CXPI_REASON_NODE, 0, CXPI_CAUSE_WAKE));
+    IS(is_painted(reply, CXPI_REASON_LENGTH) && !is_painted(reply, CXPI_REASON_LENGTH - 1));
+    IS(master_answered(16, 0, 2, 0, 1, 0) == CXPI_DONE && master_answered(17, 1, 17, 0, 1, 0) == CXPI_DAMAGED);
+    IS(reason_is(CXPI_REASON_NODE, 1, CXPI_CAUSE_DAMAGED));
+    IS(master_answered(17, 0, 17, 0, 1, 0) == CXPI_DONE && master_answered(18, 0, 9, 0, 1, 0) == CXPI_DONE);
+    IS(reason_is(CXPI_REASON_NONE, 0, 0));
+    IS(master_gets(CXPI_MASTER_PERMISSION, 0) == CXPI_DONE && reason_is(CXPI_REASON_OWN, 0, 0));
+    IS(master_gets(CXPI_MASTER_PERMISSION, 1) == CXPI_DONE && master_does(CXPI_MASTER_SLEEP) == CXPI_DONE);
+    IS(reason_is(CXPI_REASON_SLEEP, 0, 0));
+    IS(master_does(CXPI_MASTER_PULSE) == CXPI_DONE && reason_is(CXPI_REASON_OWED, 0, 0));
+    IS(master_gets(CXPI_MASTER_SEND_RESULT, 1) == CXPI_DONE && reason_is(CXPI_REASON_NODE, 0, CXPI_CAUSE_WAKE));
+    IS(explained(CXPI_REASON_LENGTH) == CXPI_DONE);
+    IS(explained(CXPI_REASON_LENGTH - 1) == CXPI_BUFFER_SHORT && is_painted(reply, CXPI_REASON_AT));
+}
+
 static void probe_master_sleep(void) {
     IS(master_gets(CXPI_MASTER_PERMISSION, 0) == CXPI_DONE && master_does(CXPI_MASTER_SLEEP) == CXPI_NOT_PERMITTED);
     IS(master_gets(CXPI_MASTER_PERMISSION, 1) == CXPI_DONE);
@@ -317,7 +345,9 @@ static void probe_master(void) {
     probe_master_wake_up();
     probe_master_answers();
     probe_causes();
+    probe_reasons();
     probe_master_sleep();
+    IS(explained(sizeof reply) == CXPI_NEEDS_NORMAL && reply[CXPI_REASON_AT] == 0 && is_painted(reply, CXPI_REASON_LENGTH));
     event[0] = CXPI_MASTER_TICK;
     for (size_t room = CXPI_MASTER_REPLY_LENGTH - 1; room <= CXPI_MASTER_REPLY_LENGTH; room++) {
         uint32_t number = room < CXPI_MASTER_REPLY_LENGTH ? CXPI_BUFFER_SHORT : CXPI_DONE;

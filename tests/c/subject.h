@@ -15,6 +15,7 @@
 #define cxpi_master_step reference_cxpi_master_step
 #define cxpi_node_step reference_cxpi_node_step
 #define cxpi_master_batch reference_cxpi_master_batch
+#define cxpi_master_why reference_cxpi_master_why
 #define cxpi_node_configure reference_cxpi_node_configure
 #endif
 

@@ -69,7 +69,7 @@ static void take_plan(const uint8_t *bytes, size_t length, reference_plan *plan)
 }
 
 uint32_t reference_cxpi_version(void) {
-    return 3;
+    return 4;
 }
 
 uint32_t reference_cxpi_read(const uint8_t *set, size_t set_length, uint8_t *plan, size_t plan_length) {
@@ -243,6 +243,34 @@ uint32_t reference_cxpi_master_batch(const uint8_t *plan, size_t plan_length, ui
         reference_pack_master(&master, state);
     }
     return CXPI_DONE;
+}
+
+uint32_t reference_cxpi_master_why(const uint8_t *plan, size_t plan_length, const uint8_t *state, size_t state_length, uint8_t *reply,
+                                   size_t reply_length) {
+    reference_plan record;
+    reference_master master;
+    reference_reason reason;
+    bool fits = reply_length >= CXPI_REASON_LENGTH;
+    if (fits) {
+        memset(reply, 0, CXPI_REASON_LENGTH);
+    }
+    take_plan(plan, plan_length, &record);
+    uint32_t refusal = reference_plan_refusal(&record);
+    if (refusal != 0) {
+        return refusal;
+    }
+    if (!fits) {
+        return CXPI_BUFFER_SHORT;
+    }
+    if (state_length != CXPI_MASTER_LENGTH) {
+        return CXPI_NO_STATE;
+    }
+    unpack_master(state, &master);
+    refusal = reference_master_why(&record, &master, &reason);
+    reply[0] = reason.kind;
+    reply[1] = reason.node;
+    reply[2] = reason.cause;
+    return refusal;
 }
 
 /* The node */

@@ -20,6 +20,8 @@ uint32_t reference_cxpi_node_step(const uint8_t *plan, size_t plan_length, uint8
 uint32_t reference_cxpi_master_batch(const uint8_t *plan, size_t plan_length, uint8_t *state, size_t state_length,
                                      const struct cxpi_master_event *events, size_t event_count, struct cxpi_master_reply *replies,
                                      size_t reply_count);
+uint32_t reference_cxpi_master_why(const uint8_t *plan, size_t plan_length, const uint8_t *state, size_t state_length, uint8_t *reply,
+                                   size_t reply_length);
 
 /* Packs a plan record into CXPI_PLAN_LENGTH bytes, and back. */
 void reference_pack_plan(const reference_plan *plan, uint8_t *bytes);
