@@ -2,8 +2,9 @@
  *
  * On a real unit the tick is a timer interrupt, the bus is the CXPI driver, and the unit runs the master or one node. Here all of them
  * run in one program. Node 0 is given its address and tells its identity, as on the moulding line; then document 01's twelve moves are
- * made, and after each the line that document 01 gives is printed, and indented what the nodes and the machines sent and commanded; then a
- * master takes the events of a frame slot in one call. Only the headers and the archive are used; see README.md for how to compile. */
+ * made, and after each the line that document 01 gives is printed, and indented what the nodes and the machines sent and commanded, and
+ * after a refused sleep ask why the panel is awake; then a master takes the events of a frame slot in one call. Only the headers and the
+ * archive are used; see README.md for how to compile. */
 #include <signal.h>
 #include <stdbool.h>
 #include <stdio.h>
@@ -231,9 +232,35 @@ static uint32_t permit_master(bool permission) {
     return step_master(event, sizeof event);
 }
 
+/* What a service tool asks of the stored state: why is this panel still awake? */
+static void print_reason(void) {
+    static const char *const reasons[] = {
+        [CXPI_REASON_NONE] = "nothing stands in the way",
+        [CXPI_REASON_SLEEP] = "sleep is under way",
+        [CXPI_REASON_OWED] = "the result of a called-back message is owed",
+        [CXPI_REASON_OWN] = "own permission is missing",
+        [CXPI_REASON_NODE] = "permission is not held of node",
+    };
+    static const char *const causes[] = {
+        [CXPI_CAUSE_NEW] = "never answered", [CXPI_CAUSE_REFUSED] = "refused",          [CXPI_CAUSE_AGED] = "aged out",
+        [CXPI_CAUSE_DAMAGED] = "damaged",    [CXPI_CAUSE_WAKE] = "dropped by a wake-up",
+    };
+    uint8_t reply[CXPI_REASON_LENGTH];
+    uint32_t refusal = cxpi_master_why(plan, sizeof plan, master, sizeof master, reply, sizeof reply);
+    printf("  awake: %s", refusal == CXPI_DONE ? reasons[reply[CXPI_REASON_AT]] : cxpi_refusal_text(refusal));
+    if (reply[CXPI_REASON_AT] == CXPI_REASON_NODE) {
+        printf(" %u, %s", reply[CXPI_REASON_NODE_AT], causes[reply[CXPI_REASON_CAUSE_AT]]);
+    }
+    printf("\n");
+}
+
 static uint32_t ask_for_sleep(void) {
     static const uint8_t event[] = {CXPI_MASTER_SLEEP};
-    return step_master(event, sizeof event);
+    uint32_t refusal = step_master(event, sizeof event);
+    if (refusal != CXPI_DONE) {
+        print_reason();
+    }
+    return refusal;
 }
 
 /* Document 01's twelve moves */
