@@ -55,7 +55,7 @@ sh $independent/check_drill.sh
 gcc $flags -O2 $independent/make_set.c $independent/big_plan.c $independent/reference.c -o $out/make_set
 gcc $flags -O2 $independent/drill.c $independent/reference.c -o $out/reference_drill
 $out/make_set > $out/plan.set
-python3 $independent/compare_drills.py $out/reference_drill
+python3 $independent/compare_drills.py crates/drills $out/reference_drill
 for seed in 1 2 3; do
     for kind in "" odd; do
         python3 $independent/make_drill.py $out/plan.set 100000 $seed $kind > $out/moves

@@ -4,33 +4,14 @@ crates/drill.
 
 Run at the repository's root. Beside each move stands what it prints by document 01; the line's number is put before it.
 Scripts ctc-n.m are the conformance tests of ISO 20794-5 that apply. Nothing here calls the product."""
-import os
 import sys
 
 sys.dont_write_bytecode = True
-sys.path.insert(0, "tests/sets")
-from layout import plan_set
+from scripts import EVENT, MASTER, POLLED, Scripts, write
 
-DRILLS, DRILL = "crates/drills", "crates/drill"
-POLLED, EVENT, MASTER = 1, 0, 255
-sets, scripts = {}, []
-
-
-def release_set(name, times, methods, rows):
-    nodes = [(0x41 + i, 1, method) for i, method in enumerate(methods)]
-    sets[name] = plan_set(7, times, nodes, rows)
-
-
-def raw(name, script, lines, last=b"\n"):
-    """A script of pairs, the bytes of a line and what is printed for it."""
-    printed = "".join("%d %s\n" % (k + 1, text) for k, (_, text) in enumerate(lines))
-    data = b"\n".join(line for line, _ in lines)
-    scripts.append((name, script, data + last if lines else data, printed))
-
-
-def script(name, script, table):
-    raw(name, script, [(move.strip().encode(), text.strip()) for move, text in (line.split("|") for line in table.strip().split("\n"))])
-
+DRILL = "crates/drill"
+drills = Scripts("crates/drills")
+sets, release_set, raw, script = drills.sets, drills.release_set, drills.raw, drills.script
 
 # Times are W window, D clock stop, S node sleep, E quiet limit, R wake-up recovery, P wake-up space, C clock start.
 release_set("t", [10, 2, 3, 4, 5, 6, 1], [POLLED], [(16, 0, 2, 1)])
@@ -568,26 +549,10 @@ raw("t", "carriage-returns", [(b"tick\r", BAD)] * 3)
 
 # A refused set, and one that is missing: nothing but its number
 for name, refusal in [("short", 1), ("check", 2), ("missing", 1)]:
-    scripts.append((name, "document-01", None, "set %d\n" % refusal))
+    drills.refused(name, "document-01", refusal)
 
-
-def write(path, data):
-    with open(path, "wb") as f:
-        f.write(data)
-
-
-os.makedirs(DRILLS + "/data", exist_ok=True)
-os.makedirs(DRILL + "/data", exist_ok=True)
-for name, data in sets.items():
-    write("%s/data/%s.set" % (DRILLS, name), data)
-args, stdout = [], ""
-for name, script_name, data, printed in scripts:
-    if data is not None:
-        write("%s/data/%s" % (DRILLS, script_name), data)
-    args += [name + ".set", script_name]
-    stdout += "%s.set %s\n%s" % (name, script_name, printed)
-write(DRILLS + "/args", "".join(word + "\n" for word in args).encode())
-write(DRILLS + "/stdout", stdout.encode())
-write(DRILL + "/data/plan.set", sets["t"])
-write(DRILL + "/stdin", scripts[0][2])
-write(DRILL + "/stdout", scripts[0][3].encode())
+drills.store()
+_, _, moves, printed = drills.scripts[0]
+write(DRILL + "/data", "plan.set", sets["t"])
+write(DRILL, "stdin", moves)
+write(DRILL, "stdout", printed.encode())

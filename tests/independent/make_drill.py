@@ -147,4 +147,5 @@ def main():
     Drill(read_plan(sys.argv[1]), int(sys.argv[2]), int(sys.argv[3]), len(sys.argv) == 5, sys.stdout.buffer).run()
 
 
-main()
+if __name__ == "__main__":
+    main()
