@@ -1,11 +1,17 @@
 # rt proves and builds what has changed; rt ci starts from nothing and gives the verdict.
-.PHONY: run show replay test bench lib firmware cases
+.PHONY: run why show replay test bench lib firmware cases
 
 # Document 01's drill: its twelve moves on set T.
 run:
 	@mkdir -p target
 	@rt check drill > target/run.log 2>&1 || { cat target/run.log; exit 1; }
 	@cd examples/set-t && ../../target/bin/drill < moves
+
+# Document 01's drill up to the sleep ask that is refused, and why the panel is awake.
+why:
+	@mkdir -p target
+	@rt check why > target/run.log 2>&1 || { cat target/run.log; exit 1; }
+	@cd examples/set-t && head -n 6 moves | ../../target/bin/why
 
 # The example set T of document 01, in words.
 show:
@@ -40,7 +46,7 @@ firmware:
 	@sh firmware/archives.sh
 
 # Makes the test sets, the machines' cases, the lists of events, the requests to a node, the lists of moves, the recorded moves, the drill's
-# scripts and what must be printed of them anew, from documents 01 and 02 (needs python3).
+# scripts, the cases of why and what must be printed of them anew, from documents 01 and 02 (needs python3).
 cases:
 	python3 tests/sets/make.py
 	python3 tests/machines/make.py
@@ -49,3 +55,4 @@ cases:
 	python3 tests/runs/make.py
 	python3 tests/replay/make.py
 	python3 tests/drills/make.py
+	python3 tests/why/make.py

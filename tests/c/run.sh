@@ -1,7 +1,7 @@
 #!/bin/sh
 # Builds the archive and runs the C tests against it: each export under sanitizers, the comparisons with the independent implementation,
-# the headers and the symbols, the firmware and the station example; the drill and the replay of recorded moves against independent ones; and the archives
-# for controllers. By gcc, and by clang where it is present.
+# the headers and the symbols, the firmware and the station example; the drill, the explanation and the replay of recorded moves against
+# independent ones; and the archives for controllers. By gcc, and by clang where it is present.
 set -eu
 cd "$(dirname "$0")/../.."
 out=target/c
@@ -19,7 +19,7 @@ last_line() {
 
 mkdir -p $out
 # Proves nothing again after rt ci, but for the crates of C calls, which are proved with their archive; their modules are kept for the controllers.
-rt check drill replay replay_states show > $out/log 2>&1 || { cat $out/log; exit 1; }
+rt check drill why replay replay_states show > $out/log 2>&1 || { cat $out/log; exit 1; }
 sh firmware/module.sh
 sh tests/c/symbols.sh $archive include/cxpi.h
 
@@ -63,6 +63,12 @@ for seed in 1 2 3; do
     done
 done
 echo "drill: 600000 lines as the independent drill prints them"
+
+# The line why: the independent program by cases worked out by hand and by faults that must be found; then the product by the same cases, and
+# against it on as many lines as the drill, in short lists.
+sh tests/why/faults.sh
+python3 tests/why/check.py target/bin/why
+python3 tests/why/compare.py target/bin/why "$out/reference_drill why"
 
 # Recorded moves: the independent bus by lists worked out by hand and by faults that must be found; then the product by the same lists, by
 # the example recording, and against it on two million random moves.
