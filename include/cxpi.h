@@ -69,7 +69,7 @@ uint32_t cxpi_version(void);
 #define CXPI_DAMAGED 13       /* answer's result is not 0; the master lets its publisher's permission go and calls back */
 #define CXPI_WRONG_LENGTH 14  /* answer's length is not the row's; the same */
 #define CXPI_NO_EVENT 15      /* bytes that are no event, a count above 3 or a ReqId above 127 */
-#define CXPI_NEEDS_NORMAL 16  /* event needs Normal, or the question why */
+#define CXPI_NEEDS_NORMAL 16  /* event needs Normal, and so does cxpi_master_why */
 #define CXPI_NO_RESULT_DUE 17 /* no send result awaited */
 #define CXPI_UNDER_WAY 18     /* sleep message already under way */
 #define CXPI_NOT_PERMITTED 19 /* master's own permission is no */

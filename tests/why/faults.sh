@@ -60,8 +60,9 @@ fault 's/REFERENCE_CAUSE_AGED : /REFERENCE_CAUSE_WAKE : /'
 fault '/^static void wake_all/,/^}/ s/REFERENCE_CAUSE_WAKE/master->permissions[number].age == edge ? REFERENCE_CAUSE_AGED : &/
        s/^static void wake_all/static uint16_t edge;\n&/
        s/permission->age++;/& edge = plan->times.window;/' # dropped at age W is aged
-fault '/^static uint32_t master_answer/,/^}/ s/REFERENCE_CAUSE_DAMAGED/REFERENCE_CAUSE_REFUSED/'
-fault '/^static uint32_t master_answer/,/^}/ s/let_go(master, row->publisher, REFERENCE_CAUSE_REFUSED)/let_go(master, row->publisher, master->causes[row->publisher])/'
+answer='/^static uint32_t master_answer/,/^}/'
+fault "$answer s/REFERENCE_CAUSE_DAMAGED/REFERENCE_CAUSE_REFUSED/"
+fault "$answer s/REFERENCE_CAUSE_REFUSED/master->causes[row->publisher]/" # a refusal keeps the cause of before
 fault '/^static uint32_t master_tick/,/^}/ s/forget_causes(master);//'
 echo "$found faults, each found by the cases and by the comparison"
 

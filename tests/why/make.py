@@ -213,7 +213,7 @@ for name, before, after in [("two-ticks", "0 aged", "aged"), ("three-ticks", "no
     why(name, name + "-pulse-awake", ASLEEP + PULSE + AWAKE, "0 " + after)
     why(name, name + "-pulse-first-held", ASLEEP + PULSE + AWAKE + HELD_0, "1 " + after)
     why(name, name + "-pulse-carried", ASLEEP + PULSE + AWAKE + HELD_0 + "req 17 ok | N0 1 NN 0", "0 wake")
-# the same one tick earlier and later for both: pulses of nodes in Standby with the clock on
+# one tick later the window of three ticks has run out too
 why("three-ticks", "three-ticks-next", ASLEEP + "tick | N0 1 SS 0\nwake 1 | N0 1 SS 0", "0 aged")
 # pulses in a tick reach a master that is not in Normal
 LATE = "wake 1 | S0 0 SS 0\ntick | S0 0 SS 0\n"
