@@ -6,6 +6,7 @@ ghost use Rattle.reader.specs.Read.{readSet};
 use drill_feed::Drill;
 use libc::STDOUT_FILENO;
 use master_reason::explain;
+use plan::Plan;
 use text::below;
 use why_text::append_why;
 
@@ -74,13 +75,20 @@ pub fn drill(set: &[u8], file: i32) -> u8
 }
 
 // One line more, by the master that the moves left.
-fn print_why(drill: Drill) {
+fn print_why(drill: Drill, out: &mut [u8]) {
+    let world = drill.world;
+    let master = world.master;
+    let plan = drill.plan;
+    let end = append_why(out, 0, explain(plan, master));
+    let length = below(&out[..], end);
+    io::write_all(STDOUT_FILENO, &out[..length]);
+}
+
+fn run_and_explain(file: i32, plan: Plan) {
+    let drill = run(file, Drill::start(plan));
     let mut room = io::large_buffer();
     let out: &mut [u8] = &mut room;
-    let world = drill.world;
-    let plan = drill.plan;
-    let length = append_why(out, 0, explain(plan, world.master));
-    io::write_all(STDOUT_FILENO, &out[..below(&out[..], length)]);
+    print_why(drill, out);
 }
 
 // The same as `drill`, and why the master is awake.
@@ -90,7 +98,7 @@ pub fn why(set: &[u8], file: i32) -> u8
     let answer = set_file::read_plan(set);
     let plan = answer.plan;
     if answer.refusal == 0 {
-        print_why(run(file, Drill::start(plan)));
+        run_and_explain(file, plan);
     }
     answer.refusal
 }

@@ -4,6 +4,7 @@ use borrow.Author.Tests.{eq-eqb, ne-eqb}
 use Rattle.demand.proofs.Holds.{demand3}
 use Rattle.demand.proofs.Reasons.{reasons}
 use Rattle.runs.specs.declared.Ran.{Ran}
+use Rattle.runs.specs.Records.{movesOf}
 use borrow.Author.Needs.{needs}
 use Rattle.runs.proofs.run.Statement.{statement}
 use Rattle.runs.proofs.run.Tie as tie
@@ -20,7 +21,10 @@ refused-requires c κs = search needs
 returns : tie.Need-returns
 returns c = (
   rw (c .run-all .ensures, ← c .before .before .plan-refusal .ensures, eq-eqb _ _ (c .before .if1 .taken)),
-  λ e. let ok = sym (c .before .before .plan-refusal .ensures) ∙ c .before .if1 .taken in (demand3 _ ok _, reasons _ ok _),
+  λ e. (
+    demand3 _ (sym (c .before .before .plan-refusal .ensures) ∙ c .before .if1 .taken) _,
+    reasons (c .before .before .before .before .args .plan) (sym (c .before .before .plan-refusal .ensures) ∙ c .before .if1 .taken) (movesOf (c .before .before .before .before .args .moves .now)),
+  ),
 )
 
 returns-2 : tie.Need-returns-2
