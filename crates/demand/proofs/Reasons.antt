@@ -1,14 +1,13 @@
 -- After every list of moves the reason that is told of the master is the one that the list shows.
-use Prim.Native.Nat.{ℕ, zero, suc, _<_}
+use Prim.Native.Nat.{ℕ, _<_}
 use mathlib.Core.Path.{_≡_, refl, sym, ap, ap₂, _∙_}
 use mathlib.Core.Bool.{Bool, true, false, not}
 use mathlib.Core.List.{List}
 use lib.Dec.{ltb}
-use native.Mathlib.Omega.{arith}
 use lib.ListN.{getD}
 use borrow.Author.Tests.{ltb-true, eq-eqb, not-true}
-use Rattle.folds.specs.Fold.{pick, anyTo, firstTo}
-use Rattle.folds.proofs.First.{first-holds}
+use Rattle.folds.specs.Fold.{pick, firstTo}
+use Rattle.folds.proofs.First.{first-same, first-holds}
 use Rattle.machine.specs.declared.State.{State}
 use Rattle.machine.specs.State.{isNormal}
 use Rattle.plan.specs.declared.Plan.{Plan}
@@ -33,18 +32,6 @@ use Rattle.demand.proofs.Holds.{run-told}
 use Rattle.demand.proofs.Masters.{MasterTold, own-word}
 use Rattle.demand.proofs.Phases.{isUnderWay, isOwed, under-way-shown, owed-shown}
 use Rattle.demand.proofs.Shown.{Node}
-
--- tests that agree below a bound have one first number there
-module _ (f g : ℕ → Bool) where
-  any-same : (n : ℕ) → ((i : ℕ) → i < n → f i ≡ g i) → anyTo f n ≡ anyTo g n
-  unfolding anyTo
-  any-same zero h = refl
-  any-same (suc n) h = rw (any-same n (λ i l. h i (omega (arith, l))), h n (omega arith))
-
-  first-same : (n : ℕ) → ((i : ℕ) → i < n → f i ≡ g i) → firstTo f n ≡ firstTo g n
-  unfolding firstTo
-  first-same zero h = refl
-  first-same (suc n) h = rw (any-same n (λ i l. h i (omega (arith, l))), first-same n (λ i l. h i (omega (arith, l))), h n (omega arith))
 
 -- a cause and its number
 cause-back : (c : Cause) → causeOf (causeNumber c) ≡ c

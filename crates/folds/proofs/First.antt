@@ -67,3 +67,15 @@ module _ (f : ℕ → Bool) where
       go : (a : Bool) → anyTo f n ≡ a → (i : ℕ) → i < n → f i ≡ false
       go true e = absurd (omega (arith, any-below n e))
       go false e = any-at f n e
+
+-- tests that agree below a bound have one first number there
+module _ (f g : ℕ → Bool) where
+  any-same : (n : ℕ) → ((i : ℕ) → i < n → f i ≡ g i) → anyTo f n ≡ anyTo g n
+  unfolding anyTo
+  any-same zero h = refl
+  any-same (suc n) h = rw (any-same n (λ i l. h i (omega (arith, l))), h n (omega arith))
+
+  pub first-same : (n : ℕ) → ((i : ℕ) → i < n → f i ≡ g i) → firstTo f n ≡ firstTo g n
+  unfolding firstTo
+  first-same zero h = refl
+  first-same (suc n) h = rw (any-same n (λ i l. h i (omega (arith, l))), first-same n (λ i l. h i (omega (arith, l))), h n (omega arith))

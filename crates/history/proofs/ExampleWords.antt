@@ -1,4 +1,4 @@
--- Each word of demand 3 on a computed list on which it is true, and on one a move or a tick away on which it is not.
+-- Each word of demand 3 and of W-205 on a computed list on which it is true, and on one a move or a tick away on which it is not.
 use mathlib.Core.Path.{_≡_, refl}
 use mathlib.Core.Bool.{Bool, true, false}
 use mathlib.Core.List.{List, [], _∷_, _++_}
@@ -8,12 +8,13 @@ use Rattle.master.specs.Sleeping.{notHeld}
 use Rattle.master.specs.Ticks.{allOlder}
 use Rattle.master.specs.declared.Answer.{Answer}
 use Rattle.bus.specs.declared.Act.{Act}
+use Rattle.bus.specs.declared.Arrival.{Arrival}
 use Rattle.bus.specs.declared.Move.{Move}
 use Rattle.bus.specs.declared.Passed.{Passed}
 use Rattle.bus.specs.Passed.{nothing}
 use Rattle.history.specs.Examples.{plan, lossless, does, ticks, permitting, answering, asking, result, stopping, damaged, calling, waking}
 use Rattle.history.specs.Run.{run}
-use Rattle.history.specs.Words.{every, none, masterPermitted, nodePermitted, isAnswerOf, isDamaged, isRefusing, trulyGiven, isWakeUp, isSending, isStop, ticksIn, leavesOn, leavesOff, isAsk, reaches}
+use Rattle.history.specs.Words.{every, none, masterPermitted, nodePermitted, isAnswerOf, isDamaged, isRefusing, trulyGiven, isWakeUp, isSending, isStop, ticksIn, leavesOn, leavesOff, isAsk, reaches, some, since, hasResult, isSent, isCallBack, clockLeft, sinceOn, lastAnswer, within}
 
 -- what passed in the last move of a list, under the first plan
 abbrev last : List Move → Passed
@@ -147,3 +148,55 @@ gives :
     × (trulyGiven 0 (answer true false) (past (permitting ++ (does (Act.NodePermission 0 false) ∷ []))) ≡ false)
 unfolding findRow rowAmong hasReqid firstTo anyTo notHeld allOlder tab
 gives = (refl, refl, refl, refl)
+
+-- W-205: call-backs, and results
+backs :
+    (isCallBack (last (does Act.MasterWakeAsk ∷ [])) ≡ true)
+    × (isCallBack (last (answering ++ (damaged ∷ []))) ≡ true)
+    × (isCallBack (last (answering ++ (does (Act.NodePermission 1 false) ∷ does (Act.Request 2) ∷ []))) ≡ true)
+    × (isCallBack (last (does (Act.MasterPermission false) ∷ [])) ≡ true)
+    × (isCallBack (last (does (Act.MasterPermission true) ∷ [])) ≡ false)
+    × (isCallBack (last (does (Act.NodePermission 0 false) ∷ [])) ≡ false)
+    × (isCallBack (last answering) ≡ false)
+    × (isCallBack (last (answering ++ ticks 1 lossless)) ≡ false)
+unfolding findRow rowAmong hasReqid firstTo anyTo notHeld allOlder tab
+backs = (refl, refl, refl, refl, refl, refl, refl, refl)
+
+results :
+    (hasResult (last (asking ++ (result true true ∷ []))) ≡ true)
+    × (hasResult (last (asking ++ (result false true ∷ []))) ≡ true)
+    × (isSent (last (asking ++ (result true true ∷ []))) ≡ true)
+    × (isSent (last (asking ++ (result false true ∷ []))) ≡ false)
+    × (hasResult (last asking) ≡ false)
+    × (hasResult (last (answering ++ (result true true ∷ []))) ≡ false)
+unfolding findRow rowAmong hasReqid firstTo anyTo notHeld allOlder tab
+results = (refl, refl, refl, refl, refl, refl)
+
+-- the clock that the last tick left, and the moves since it was last switched on; a sending and those since
+lefts :
+    (clockLeft [] ≡ false)
+    × (clockLeft (past (does Act.MasterWakeAsk ∷ [])) ≡ false)
+    × (clockLeft (past (waking 1)) ≡ true)
+    × (clockLeft (past stopping) ≡ false)
+    × (ticksIn (sinceOn (past (waking 3))) ≡ 2)
+    × (ticksIn (sinceOn (past (stopping ++ (does Act.MasterWakeAsk ∷ ticks 3 lossless)))) ≡ 2)
+    × (some isSending (past answering) ≡ false)
+    × (some isSending (past stopping) ≡ true)
+    × (ticksIn (since isSending (past stopping)) ≡ 2)
+unfolding findRow rowAmong hasReqid firstTo anyTo notHeld allOlder tab
+lefts = (refl, refl, refl, refl, refl, refl, refl, refl, refl)
+
+-- the last answer of a node, and the part within a window of the moves since
+abbrev bit : Arrival → Bool
+bit Arrival.Nothing = false
+bit (Arrival.Answer row a) = a .permission
+
+lasts :
+    (bit (lastAnswer 0 (past answering)) ≡ true)
+    × (bit (lastAnswer 0 (past permitting)) ≡ false)
+    × (bit (lastAnswer 1 (past (answering ++ (does (Act.NodePermission 1 false) ∷ does (Act.Request 2) ∷ [])))) ≡ false)
+    × (ticksIn (within 3 (past (waking 3))) ≡ 3)
+    × (ticksIn (within 3 (past (waking 4))) ≡ 3)
+    × (ticksIn (within 2 (past (waking 3))) ≡ 2)
+unfolding findRow rowAmong hasReqid firstTo anyTo notHeld allOlder tab
+lasts = (refl, refl, refl, refl, refl, refl)

@@ -3,7 +3,6 @@ use Prim.Native.Nat.{ℕ}
 use mathlib.Core.Path.{_≡_, refl, sym, ap, _∙_}
 use mathlib.Core.Bool.{Bool, true, false, _&&_}
 use lib.Dec.{ltb, eqb}
-use lib.ListN.{getD}
 use borrow.Author.Tests.{eq-eqb, eqb-true}
 use Rattle.folds.specs.Fold.{pick, firstTo}
 use Rattle.folds.proofs.AllAny.{and-l, and-r}
@@ -15,13 +14,14 @@ use Rattle.master.specs.declared.Command.{Command}
 use Rattle.master.specs.declared.Event.{Event}
 use Rattle.master.specs.declared.Master.{Master}
 use Rattle.master.specs.declared.Phase.{Phase}
-use Rattle.master.specs.Changes.{causeNew, inPhase, commands, refuse}
+use Rattle.master.specs.Changes.{inPhase, commands, refuse}
 use Rattle.master.specs.Range.{inRange}
 use Rattle.master.specs.Sleeping.{notHeld, missing, sleepAskBy}
 use Rattle.master.specs.Step.{masterStep}
+use Rattle.master_reason.specs.declared.Cause.{Cause}
 use Rattle.master_reason.specs.declared.Explained.{Explained}
 use Rattle.master_reason.specs.declared.Reason.{Reason}
-use Rattle.master_reason.specs.Reasons.{causeOf, reasonBy, told, explainBy, explain}
+use Rattle.master_reason.specs.Reasons.{reasonBy, told, explainBy, explain}
 
 -- a test of what is told: nothing stands in the way
 abbrev isNothing : Reason → Bool
@@ -46,15 +46,15 @@ is-free e h = λ i. record { refusal = eqb-true (e .refusal) 0 (and-l (eqb (e .r
 
 -- free and accepted are one, state by state and phase by phase
 module _ (n : ℕ) (m : Master) where
-  in-open : (own some : Bool) (node : ℕ)
-      → free (told (pick own (pick some (Reason.Node node (causeOf (getD (m .causes) node causeNew))) Reason.Nothing) Reason.Own))
+  in-open : (own some : Bool) (node named : ℕ) (cause : Cause)
+      → free (told (pick own (pick some (Reason.Node named cause) Reason.Nothing) Reason.Own))
       ≡ eqb (pick own (pick some (missing node m) (commands Command.SleepMessage (inPhase Phase.Sending m))) (refuse m 19) .refusal) 0
-  in-open true true node = refl
-  in-open true false node = refl
-  in-open false some node = refl
+  in-open true true node named cause = refl
+  in-open true false node named cause = refl
+  in-open false some node named cause = refl
 
   by-phase : (phase : Phase) → free (told (reasonBy n phase m)) ≡ eqb (sleepAskBy n State.Normal phase m .refusal) 0
-  by-phase Phase.Open = in-open (m .permission) (ltb (firstTo (notHeld (m .holds)) n) n) (firstTo (notHeld (m .holds)) n)
+  by-phase Phase.Open = in-open (m .permission) (ltb (firstTo (notHeld (m .holds)) n) n) (firstTo (notHeld (m .holds)) n) _ _
   by-phase Phase.Sending = refl
   by-phase Phase.Withdrawn = refl
   by-phase Phase.Closing = refl
