@@ -1,14 +1,14 @@
 -- The number that plan or state give every event, and the state's bytes under it.
 use Prim.Native.Nat.{ℕ, _+_, _<_}
 use mathlib.Core.Path.{_≡_, refl, sym, _∙_, ap}
-use mathlib.Core.Bool.{Bool, true, false, _&&_}
+use mathlib.Core.Bool.{Bool, true, false}
 use mathlib.Core.List.{List}
 use lib.ListN.{length}
-use lib.Dec.{ltb, eqb}
+use lib.Dec.{eqb}
 use lib.Seq.{sets}
 use native.Mathlib.Omega.{arith}
 use borrow.Author.Tests.{eqb-true, ne-eqb}
-use Rattle.folds.specs.Fold.{pick, allTo}
+use Rattle.folds.specs.Fold.{pick}
 use Rattle.folds.proofs.AllAny.{halves}
 use Rattle.folds.proofs.Choices.{by-test, no-way}
 use Rattle.folds.proofs.Tables.{length-tab}

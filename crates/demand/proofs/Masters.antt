@@ -27,7 +27,7 @@ use Rattle.bus.specs.Messages.{sendingBy}
 use Rattle.bus.specs.declared.Passed.{Passed}
 use Rattle.bus.specs.Passed.{ticked, asked, masterPermits, nodePermits, answered, sending, slept, nothing}
 use Rattle.demand.specs.Demand3.{Given, Agreed, StopsAgreed}
-use Rattle.history.specs.Words.{every, none, masterSaid, masterPermitted, nodePermitted, isAnswerOf, isDamaged, isRefusing, trulyGiven, isWakeUp, isSending, isStop, ticksIn}
+use Rattle.history.specs.Words.{none, masterSaid, masterPermitted, nodePermitted, isAnswerOf, isDamaged, isRefusing, trulyGiven, isWakeUp, isSending, isStop, ticksIn}
 use Rattle.demand.proofs.Ticks.{plus}
 use Rattle.demand.proofs.Nodes.{few}
 use Rattle.demand.proofs.Shown as History

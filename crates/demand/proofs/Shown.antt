@@ -25,16 +25,15 @@ use Rattle.master.specs.declared.Master.{Master}
 use Rattle.master.specs.declared.Phase.{Phase}
 use Rattle.master.specs.declared.Reply.{Reply}
 use Rattle.master.specs.Answers.{isWhole, judged, rowStep}
-use Rattle.master.specs.Changes.{noHold, noHolds, causeNew, causeRefused, causeDamaged, causeWake, noCauses, powerOn, inPhase, withPermission, withHolds, withCounts, withCause, letGo, hold, woken, wokenAt, allWoken, dropAll, callBackBy, callBack}
+use Rattle.master.specs.Changes.{noHold, causeNew, causeRefused, causeDamaged, causeWake, powerOn, inPhase, withPermission, withCounts, withCause, letGo, hold, woken, wokenAt, allWoken, dropAll, callBackBy, callBack}
 use Rattle.master.specs.Clock.{clockOn, isOff, isClosing}
-use Rattle.master.specs.Range.{isOpen, phaseRight, holdRight, holdRightAt, holdsRight, causesRight}
+use Rattle.master.specs.Range.{phaseRight, holdRightAt, holdsRight}
 use Rattle.master.specs.Sleeping.{sendResultBy, sendResultStep}
 use Rattle.master.specs.Ticks.{older, olderAt, allOlder, agedOut, agedOutAt, allAgedOut, aged, toNormal, toSleep, tickBy, tickStep}
 use Rattle.master.specs.Waking.{wakeUpBy, wakeUpStep, permissionStep}
 use Rattle.master.proofs.Clock.{call-back-state}
 use Rattle.master.proofs.InRange.{Fits}
 use Rattle.master.proofs.InRun.{NoneHeld}
-use Rattle.bus.specs.declared.Arrival.{Arrival}
 use Rattle.bus.specs.declared.Passed.{Passed}
 use Rattle.bus.specs.Passed.{ticked, asked, masterPermits, answered, sending, slept}
 use Rattle.history.specs.Words.{none, since, isAnswerOf, isWakeUp, isSending, isStop, hasResult, isSent, isCallBack, clockLeft, sinceOn, lastAnswer}
@@ -94,11 +93,6 @@ open-outside n t m f e = go (m .state) (m .phase) e (f .phase)
     go State.Sleep Phase.Sending e h = no-way h
     go State.Sleep Phase.Withdrawn e h = no-way h
     go State.Sleep Phase.Closing e h = no-way h
-
--- m itself where these are its own state and phase
-abbrev split : Master → State → Phase → Master
-split m state phase =
-    record { state = state; phase = phase; permission = m .permission; holds = m .holds; causes = m .causes; counts = m .counts; delay = m .delay; ticks = m .ticks }
 
 -- nothing is held, so each permission is as at power-on
 none-there : (n window : ℕ) (m : Master) → holdsRight n window (m .holds) ≡ true → NoneHeld (m .holds) → (i : ℕ) → i < 16 → holdAt m i ≡ noHold

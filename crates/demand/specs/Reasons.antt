@@ -1,7 +1,7 @@
 -- W-205: "the reason is what the history from power-on shows", told by what passed in the moves. A past has its latest move first.
 use Prim.Native.Nat.{ℕ}
 use mathlib.Core.Path.{_≡_}
-use mathlib.Core.Bool.{Bool, true, false, not, _&&_, _||_}
+use mathlib.Core.Bool.{Bool, false, not, _&&_, _||_}
 use mathlib.Core.List.{List}
 use lib.Dec.{leb, ltb}
 use Rattle.folds.specs.Fold.{pick, firstTo}

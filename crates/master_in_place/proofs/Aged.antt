@@ -1,10 +1,10 @@
 -- Permissions and causes a tick later, one node after the other, in the bytes of a state.
 use Prim.Native.Nat.{ℕ, suc, min, _+_, _*_, _≤_, _<_}
 use mathlib.Core.Path.{_≡_, refl, sym, _∙_, ap, ap₂}
-use mathlib.Core.Bool.{Bool, true, false, _&&_}
+use mathlib.Core.Bool.{Bool, true, false}
 use mathlib.Core.List.{List, [], _∷_, _++_, append-assoc}
-use lib.Dec.{leb, ltb}
-use lib.ListN.{length, getD, set, take, length-take}
+use lib.Dec.{ltb}
+use lib.ListN.{length, getD, take, length-take}
 use lib.Seq.{sets, length-sets, take-all, take-suc, set-getD}
 use native.Mathlib.Omega.{arith}
 use native.Mathlib.Decide.{decLt}

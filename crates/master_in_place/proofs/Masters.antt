@@ -1,5 +1,5 @@
 -- A tick and a whole answer in the bytes of a master's state are the master's own.
-use Prim.Native.Nat.{ℕ, suc, _+_, _*_, _/_, _%_, _^_, _≤_, _<_}
+use Prim.Native.Nat.{ℕ, _+_, _*_, _/_, _%_, _^_, _≤_, _<_}
 use mathlib.Core.Path.{_≡_, refl, sym, _∙_, ap, ap₂}
 use mathlib.Core.Bool.{Bool, true, false, _&&_}
 use mathlib.Core.List.{List, [], _∷_, _++_}
@@ -13,8 +13,8 @@ use Rattle.folds.specs.Fold.{pick, tab}
 use Rattle.folds.proofs.AllAny.{and-l, all-at}
 use Rattle.folds.proofs.Choices.{by-test}
 use Rattle.folds.proofs.Tables.{getD-tab, length-tab, tab-of}
-use Rattle.blocks.specs.Bytes.{byte, longNumber, fourBytes, twoBytes, tableAt}
-use Rattle.machine.specs.Bytes.{stateByte, flagByte}
+use Rattle.blocks.specs.Bytes.{byte, fourBytes, tableAt}
+use Rattle.machine.specs.Bytes.{stateByte}
 use Rattle.plan.specs.declared.Row.{Row}
 use Rattle.plan.specs.Answers.{isCounted}
 use Rattle.master.specs.declared.Hold.{Hold}
@@ -25,10 +25,10 @@ use Rattle.master.specs.Changes.{noHold, causeNew, causeAged, withHolds, withCa
 use Rattle.master.specs.Answers.{lostAfter, counted}
 use Rattle.master.specs.Range.{holdRightAt, holdsRight}
 use Rattle.master.specs.Ticks.{older, olderAt, allOlder, agedOutAt, allAgedOut, aged}
-use Rattle.master_bytes.specs.States.{phaseByte, masterHead, holdBytes, holdByteAt, holdsBytes, holdsOf, causesOf, masterBytes, masterFrom}
+use Rattle.master_bytes.specs.States.{masterHead, holdBytes, holdByteAt, holdsBytes, holdsOf, causesOf, masterBytes, masterFrom}
 use Rattle.master_bytes.proofs.StateTrips.{master-back}
-use Rattle.master_in_place.specs.InPlace.{isNormalAt, agedHolds, agedNodes, ticked, agedBytes, lostBefore, countKept, answerKept}
-use Rattle.master_in_place.proofs.Parts.{sets-front, sets-back, sets-whole, sets-before, sets-past, sets-inside}
+use Rattle.master_in_place.specs.InPlace.{isNormalAt, agedHolds, agedNodes, ticked, agedBytes, lostBefore, answerKept}
+use Rattle.master_in_place.proofs.Parts.{sets-front, sets-back, sets-before, sets-past, sets-inside}
 
 -- a master's tables have their places
 pub record Sized (m : Master) : Type 0 where

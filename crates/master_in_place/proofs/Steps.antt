@@ -25,7 +25,6 @@ use Rattle.plan.proofs.RisingRows.{rising-found}
 use Rattle.master.specs.declared.Phase.{Phase}
 use Rattle.master.specs.declared.Answer.{Answer}
 use Rattle.master.specs.declared.Master.{Master}
-use Rattle.master.specs.declared.Reply.{Reply}
 use Rattle.master.specs.Changes.{causeNew, withCause, hold, silent}
 use Rattle.master.specs.Range.{inRange}
 use Rattle.master.specs.Answers.{lostAfter, counted, reports, answerBy, answerStep}

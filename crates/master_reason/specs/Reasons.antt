@@ -1,6 +1,5 @@
 -- W-205: "For any accepted plan and master state in Normal give the first true reason of these".
 use Prim.Native.Nat.{ℕ}
-use mathlib.Core.Bool.{Bool}
 use lib.Dec.{ltb, eqb}
 use lib.ListN.{getD}
 use Rattle.folds.specs.Fold.{pick, firstTo}

@@ -1,5 +1,5 @@
 -- The rows in the bytes: looked up, and judged one after the other.
-use Prim.Native.Nat.{ℕ, zero, suc, min, _+_, _<_}
+use Prim.Native.Nat.{ℕ, suc, min, _+_, _<_}
 use mathlib.Core.Path.{_≡_, ap, sym, _∙_}
 use mathlib.Core.Bool.{Bool, true, false}
 use mathlib.Core.List.{List}
