@@ -34,7 +34,7 @@ test_archive() {
     logged "$strict" "$work/firmware" examples/set-t/plan.set
     cmp $out/log examples/firmware/stdout
     $(compiler_for "${1%-*}" "$roomy") $flags tests/c/compare.c $reference "$archive" -o "$work/compare"
-    logged "$roomy" "$work/compare" 1000000 20000 2
+    logged "$roomy" "$work/compare" 1000000 20000 1
     tail -n 1 $out/log
     $(compiler_for "${1%-*}" "$roomy") $flags tests/c/compare_configuration.c $independent/configuration.c "$archive" -o "$work/compare_configuration"
     logged "$roomy" "$work/compare_configuration" 200000 2
