@@ -135,9 +135,9 @@ pub(crate) fn rising_row_in(bytes: &[u8], reqid: u8) -> Lookup
     let mut j = least(reqid as u32, count);
     while 0 < j {
         j -= 1;
-        let row = row_at(bytes, j);
-        if row.reqid == reqid {
-            return Lookup::Found(row);
+        let found = row_at(bytes, j);
+        if found.reqid == reqid {
+            return Lookup::Found(found);
         }
     }
     Lookup::Missing
