@@ -12,6 +12,7 @@ use Rattle.bus.specs.declared.Passed.{Passed}
 use Rattle.bus.specs.declared.SendResult.{SendResult}
 use Rattle.bus.specs.Passed.{ticked, slept}
 use Rattle.master.specs.Clock.{isClosing}
+use Rattle.master.proofs.InRun as InRun
 use Rattle.history.specs.Words.{none, some, since, isSending, isStop, isResult, hasResult, wasSent, isSent, isCallBack}
 use Rattle.demand.specs.Reasons.{underWay, owed}
 
@@ -26,23 +27,17 @@ abbrev pub phaseShown : List Passed → Phase
 phaseShown past =
     phaseBy (some isSending past) (none isCallBack (since isSending past)) (none hasResult (since isSending past)) (some isSent (since isSending past)) (none isStop (since isSending past))
 
--- what a phase is called
-abbrev pub isUnderWay : Phase → Bool
-isUnderWay Phase.Open = false
-isUnderWay Phase.Sending = true
-isUnderWay Phase.Withdrawn = false
-isUnderWay Phase.Closing = true
-
+-- the phase of a called-back message; one under way is InRun's
 abbrev pub isOwed : Phase → Bool
 isOwed Phase.Open = false
 isOwed Phase.Sending = false
 isOwed Phase.Withdrawn = true
 isOwed Phase.Closing = false
 
-pub under-way-shown : (past : List Passed) → underWay past ≡ isUnderWay (phaseShown past)
+pub under-way-shown : (past : List Passed) → underWay past ≡ InRun.underWay (phaseShown past)
 under-way-shown past = go (some isSending past) (none isCallBack (since isSending past)) (none hasResult (since isSending past)) (some isSent (since isSending past)) (none isStop (since isSending past))
   where
-    go : (a b r s t : Bool) → (a && b && (r || s && t)) ≡ isUnderWay (phaseBy a b r s t)
+    go : (a b r s t : Bool) → (a && b && (r || s && t)) ≡ InRun.underWay (phaseBy a b r s t)
     go false b r s t = refl
     go true true true s t = refl
     go true false true s t = refl

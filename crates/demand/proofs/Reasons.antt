@@ -18,6 +18,7 @@ use Rattle.master.specs.declared.Phase.{Phase}
 use Rattle.master.specs.Changes.{noHold, causeNew}
 use Rattle.master.specs.Sleeping.{notHeld}
 use Rattle.master.proofs.InRange as MasterRange
+use Rattle.master.proofs.InRun as InRun
 use Rattle.master_reason.specs.declared.Cause.{Cause}
 use Rattle.master_reason.specs.declared.Reason.{Reason}
 use Rattle.master_reason.specs.Numbers.{causeNumber}
@@ -30,7 +31,7 @@ use Rattle.demand.specs.Reasons.{heldSince, causeSince, firstMissing, no
 use Rattle.demand.proofs.Causes.{given}
 use Rattle.demand.proofs.Holds.{run-told}
 use Rattle.demand.proofs.Masters.{MasterTold, own-word}
-use Rattle.demand.proofs.Phases.{isUnderWay, isOwed, under-way-shown, owed-shown}
+use Rattle.demand.proofs.Phases.{isOwed, under-way-shown, owed-shown}
 use Rattle.demand.proofs.Shown.{Node}
 
 -- a cause and its number
@@ -42,7 +43,7 @@ cause-back Cause.Damaged = refl
 cause-back Cause.Woken = refl
 
 -- the order of the reasons, by what a phase is called
-by-phase : (n : ℕ) (q : Phase) (m : Master) → reasonBy n q m ≡ pick (isUnderWay q) Reason.UnderWay (pick (isOwed q) Reason.Owed (pick (m .permission) (nodeReason n m) Reason.Own))
+by-phase : (n : ℕ) (q : Phase) (m : Master) → reasonBy n q m ≡ pick (InRun.underWay q) Reason.UnderWay (pick (isOwed q) Reason.Owed (pick (m .permission) (nodeReason n m) Reason.Own))
 by-phase n Phase.Open m = refl
 by-phase n Phase.Sending m = refl
 by-phase n Phase.Withdrawn m = refl
@@ -95,7 +96,7 @@ module _ (p : Plan) (ok : planRefusal p ≡ 0) where
       same on =
           by-phase (p .nodecount) (m .phase) m
           ∙ ap (λ (b : Bool). pick b Reason.UnderWay (pick (isOwed (m .phase)) Reason.Owed (pick (m .permission) (nodeReason (p .nodecount) m) Reason.Own)))
-          (ap isUnderWay (v .shown .phase) ∙ sym (under-way-shown past))
+          (ap InRun.underWay (v .shown .phase) ∙ sym (under-way-shown past))
           ∙ ap (λ (b : Bool). pick (underWay past) Reason.UnderWay (pick b Reason.Owed (pick (m .permission) (nodeReason (p .nodecount) m) Reason.Own)))
           (ap isOwed (v .shown .phase) ∙ sym (owed-shown past))
           ∙ ap₂ (λ (b : Bool) (r : Reason). pick (underWay past) Reason.UnderWay (pick (owed past) Reason.Owed (pick b r Reason.Own)))

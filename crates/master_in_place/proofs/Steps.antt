@@ -33,10 +33,10 @@ use Rattle.master.specs.Step.{masterStep}
 use Rattle.master_events.specs.declared.EventRecord.{EventRecord}
 use Rattle.master_events.specs.Events.{eventOf}
 use Rattle.master_bytes.specs.States.{phaseByte, masterBytes}
-use Rattle.master_in_place.specs.InPlace.{isQuiet, isKept, accepting}
+use Rattle.master_in_place.specs.InPlace.{stays, isQuiet, isKept, accepting}
 use Rattle.master_in_place.proofs.Masters.{keeps}
 
-quiet-by : (t : Times) (s : State) (phase : Phase) (n : Master) → (eqb (stateByte s) 2 || (eqb (stateByte s) 0 && ltb (phaseByte phase) 3)) ≡ true → tickBy t s phase n ≡ silent n
+quiet-by : (t : Times) (s : State) (phase : Phase) (n : Master) → stays (stateByte s) (phaseByte phase) ≡ true → tickBy t s phase n ≡ silent n
 quiet-by t State.Sleep phase n e = refl
 quiet-by t State.Standby phase n e = no-way e
 quiet-by t State.Normal Phase.Open n e = refl
@@ -48,9 +48,9 @@ module _ (p : Plan) (m : Master) (e : EventRecord) (ok : planRefusal p ≡ 0) (r
   pub quiet-tick : isQuiet (masterBytes m) e ≡ true → masterStep p m (eventOf e) ≡ silent (aged (p .times .window) m)
   unfolding masterBytes
   quiet-tick q =
-      let stays = eqb (stateByte (m .state)) 2 || (eqb (stateByte (m .state)) 0 && ltb (phaseByte (m .phase)) 3) in
-      let kind : e .kind ≡ 0 = eqb-true _ _ (and-l (eqb (e .kind) 0) stays q) in
-      rw (ok, right, kind) (quiet-by (p .times) (m .state) (m .phase) (aged (p .times .window) m) (and-r (eqb (e .kind) 0) stays q))
+      let quiet = stays (stateByte (m .state)) (phaseByte (m .phase)) in
+      let kind : e .kind ≡ 0 = eqb-true _ _ (and-l (eqb (e .kind) 0) quiet q) in
+      rw (ok, right, kind) (quiet-by (p .times) (m .state) (m .phase) (aged (p .times .window) m) (and-r (eqb (e .kind) 0) quiet q))
 
 -- what is known of a row that is accepted
 record Accepts (found : Lookup) (length : ℕ) (row : Row) : Type 0 where

@@ -22,9 +22,12 @@ use Rattle.master_bytes.specs.States.{holdBytes, holdsBytes, holdOf, holdsOf, c
 abbrev pub isNormalAt : List ℕ → Bool
 isNormalAt s = eqb (byte s stateAt) 0
 
--- a tick that leaves state and phase: in Sleep, and in Normal but in Closing
+-- a tick leaves state and phase in Sleep, and in Normal but in Closing
+abbrev pub stays : ℕ → ℕ → Bool
+stays state phase = eqb state 2 || (eqb state 0 && ltb phase 3)
+
 abbrev pub isQuiet : List ℕ → EventRecord → Bool
-isQuiet s e = eqb (e .kind) 0 && (eqb (byte s stateAt) 2 || (isNormalAt s && ltb (byte s phaseAt) 3))
+isQuiet s e = eqb (e .kind) 0 && stays (byte s stateAt) (byte s phaseAt)
 
 -- "held ages up by one, and one above W is let go", of the first nodes: from N on none is held
 unfoldable pub agedHolds : ℕ → ℕ → List ℕ → List ℕ
