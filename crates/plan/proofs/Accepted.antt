@@ -8,9 +8,11 @@ use Rattle.folds.proofs.Rules.{none-only}
 use Rattle.plan.specs.declared.Times.{Times}
 use Rattle.plan.specs.declared.Plan.{Plan}
 use Rattle.plan.specs.Limits.{maxNodes, maxRows, leastTime, mostTime}
+use Rattle.plan.specs.Profile.{profileRight}
 use Rattle.plan.specs.Rules.{revisionRight, timesRight, nodesRight, rowsRight, allPublish, planRules, planRefusal}
 
 pub record Accepted (p : Plan) : Type 0 where
+  pub profile : profileRight (p .profile) ≡ true
   pub revision : revisionRight p ≡ true
   pub times : timesRight (p .times) ≡ true
   pub nodes : nodesRight p ≡ true
@@ -20,8 +22,8 @@ pub record Accepted (p : Plan) : Type 0 where
 pub accepted : (p : Plan) → planRefusal p ≡ 0 → Accepted p
 unfolding planRefusal
 accepted p e =
-    let kept = none-only 4 (planRules p) (omega arith) e in
-    record { revision = kept 0; times = kept 1; nodes = kept 2; rows = kept 3; published = kept 4 }
+    let kept = none-only 3 (planRules p) (omega arith) e in
+    record { profile = kept 0; revision = kept 1; times = kept 2; nodes = kept 3; rows = kept 4; published = kept 5 }
 
 pub nodes-few : (p : Plan) → nodesRight p ≡ true → p .nodecount ≤ maxNodes
 unfolding nodesRight

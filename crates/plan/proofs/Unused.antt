@@ -14,6 +14,7 @@ use Rattle.plan.specs.declared.NodeEntry.{NodeEntry}
 use Rattle.plan.specs.declared.Row.{Row}
 use Rattle.plan.specs.declared.Plan.{Plan}
 use Rattle.plan.specs.Limits.{maxNodes, maxRows}
+use Rattle.plan.specs.Profile.{profileRight}
 use Rattle.plan.specs.Record.{zeroEntry, zeroRow, entryAt, rowAt, rowsUsed, usedEntry, usedRow, unusedZero}
 use Rattle.plan.specs.Rules.{inRange, revisionRight, timesRight, entryRight, differs, nodeRight, nodesRight, reqidBefore, rowAfter, rowRight, rowsRight, isFrom, publishes, allPublish, planRefusal}
 
@@ -70,4 +71,4 @@ module _ (p : Plan) where
   pub unused-refusal : planRefusal (unusedZero p) ≡ planRefusal p
   unfolding planRefusal unusedZero
   unused-refusal =
-      λ i. firstBroken 4 (revisionRight p ∷ timesRight (p .times) ∷ nodes-same i ∷ rows-same i ∷ published-same i ∷ [])
+      λ i. firstBroken 3 (profileRight (p .profile) ∷ revisionRight p ∷ timesRight (p .times) ∷ nodes-same i ∷ rows-same i ∷ published-same i ∷ [])

@@ -1,5 +1,6 @@
 pub mod Answers
 pub mod Find
 pub mod Limits
+pub mod Profile
 pub mod Record
 pub mod Rules

@@ -22,7 +22,7 @@ zeroTimes = record { window = 0; stop = 0; sleep = 0; quiet = 0; recovery = 0; s
 
 -- the all-zero record of a refused read
 unfoldable pub zeroPlan : Plan
-zeroPlan = record { revision = 0; nodecount = 0; times = zeroTimes; nodes = replicate maxNodes zeroEntry; rowcount = 0; rows = replicate maxRows zeroRow }
+zeroPlan = record { revision = 0; profile = 0; nodecount = 0; times = zeroTimes; nodes = replicate maxNodes zeroEntry; rowcount = 0; rows = replicate maxRows zeroRow }
 
 abbrev pub entryAt : List NodeEntry → ℕ → NodeEntry
 entryAt nodes k = getD nodes k zeroEntry
@@ -43,4 +43,4 @@ usedRow p j = pick (ltb j (p .rowcount)) (rowAt (p .rows) j) zeroRow
 
 unfoldable pub unusedZero : Plan → Plan
 unusedZero p =
-    record { revision = p .revision; nodecount = p .nodecount; times = p .times; nodes = tab maxNodes (usedEntry p); rowcount = p .rowcount; rows = tab maxRows (usedRow p) }
+    record { revision = p .revision; profile = p .profile; nodecount = p .nodecount; times = p .times; nodes = tab maxNodes (usedEntry p); rowcount = p .rowcount; rows = tab maxRows (usedRow p) }

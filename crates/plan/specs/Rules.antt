@@ -12,6 +12,7 @@ use Rattle.plan.specs.declared.Times.{Times}
 use Rattle.plan.specs.declared.Plan.{Plan}
 use Rattle.plan.specs.Answers.{masterNumber}
 use Rattle.plan.specs.Limits.{maxNodes, maxRows, reqids, leastTime, mostTime}
+use Rattle.plan.specs.Profile.{profileRight}
 use Rattle.plan.specs.Record.{entryAt, rowAt, rowsUsed}
 
 abbrev pub inRange : ℕ → ℕ → ℕ → Bool
@@ -79,10 +80,10 @@ publishes rows count k = anyTo (isFrom rows k) count
 unfoldable pub allPublish : Plan → Bool
 allPublish p = allTo (publishes (p .rows) (rowsUsed (p .rowcount))) (p .nodecount)
 
--- 4 to 8, true where kept
+-- 3 to 8, true where kept
 abbrev pub planRules : Plan → List Bool
-planRules p = revisionRight p ∷ timesRight (p .times) ∷ nodesRight p ∷ rowsRight p ∷ allPublish p ∷ []
+planRules p = profileRight (p .profile) ∷ revisionRight p ∷ timesRight (p .times) ∷ nodesRight p ∷ rowsRight p ∷ allPublish p ∷ []
 
 -- the number of the first rule that a record breaks, 0 where it keeps them all
 unfoldable pub planRefusal : Plan → ℕ
-planRefusal p = firstBroken 4 (planRules p)
+planRefusal p = firstBroken 3 (planRules p)

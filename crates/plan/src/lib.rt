@@ -2,6 +2,7 @@
 ghost use mathlib.Core.Path.{_≡_};
 ghost use Rattle.plan.specs.Record.{zeroPlan, entryAt};
 ghost use Rattle.plan.specs.Answers.{isPolled, isCounted, accepts};
+ghost use Rattle.plan.specs.Profile.{sleeps};
 
 mod find;
 mod rules;
@@ -9,6 +10,7 @@ mod rules;
 pub use find::find_row;
 pub use rules::entry_right;
 pub use rules::plan_refusal;
+pub use rules::profile_right;
 pub use rules::row_after;
 pub use rules::times_right;
 
@@ -51,6 +53,8 @@ pub struct Times {
 
 pub struct Plan {
     pub revision: u16,
+    // 1 for panels whose power the ignition cuts, 0 otherwise
+    pub profile: u8,
     pub nodecount: u8,
     pub times: Times,
     pub nodes: [NodeEntry; Plan::NODES],
@@ -139,6 +143,13 @@ impl Plan {
     // The publisher's number of a row of the master.
     pub const MASTER: u8 = 255;
 
+    // Whether the panels sleep and wake: those whose power the ignition cuts never do.
+    pub fn sleeps(self) -> bool
+        ensures { λ r. ⌜ r ≡ sleeps self ⌝ }
+    {
+        self.profile == 0
+    }
+
     // Whether a node is polled.
     pub fn is_polled(self, node: u8) -> bool
         ensures { λ r. ⌜ r ≡ isPolled self node ⌝ }
@@ -156,6 +167,7 @@ impl Plan {
         let rows = [Row::ZERO; Plan::ROWS];
         Plan {
             revision: 0,
+            profile: 0,
             nodecount: 0,
             times,
             nodes,

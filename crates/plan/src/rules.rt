@@ -5,6 +5,7 @@ ghost use Rattle.folds.specs.Fold.{allTo, tab};
 ghost use Rattle.plan.specs.Limits.{maxNodes, maxRows};
 ghost use Rattle.plan.specs.Record.{rowsUsed};
 ghost use Rattle.plan.specs.Rules.{inRange, timesRight, entryRight, nodeRight, nodesRight, RowWord, rowAfter, rowRight, rowsRight, publishes, allPublish, planRefusal};
+ghost use Rattle.plan.specs.Profile.{profileRight};
 use crate::NodeEntry;
 use crate::Plan;
 use crate::Row;
@@ -14,6 +15,12 @@ fn in_range(least: u16, most: u16, x: u16) -> bool
     ensures { λ r. ⌜ r ≡ inRange least most x ⌝ }
 {
     (least <= x) & (x <= most)
+}
+
+pub fn profile_right(profile: u8) -> bool
+    ensures { λ r. ⌜ r ≡ profileRight profile ⌝ }
+{
+    profile <= 1
 }
 
 pub fn times_right(t: Times) -> bool
@@ -186,10 +193,13 @@ fn all_publish(p: Plan) -> bool
     each_publishes(rows, count, nodecount)
 }
 
-// The number of the first of the rules 4 to 8 that a record breaks, 0 where it keeps them.
+// The number of the first of the rules 3 to 8 that a record breaks, 0 where it keeps them.
 pub fn plan_refusal(p: Plan) -> u8
     ensures { λ r. ⌜ r ≡ planRefusal p ⌝ }
 {
+    if !profile_right(p.profile) {
+        return 3;
+    }
     if p.revision == 0 {
         return 4;
     }
