@@ -19,9 +19,9 @@ use Rattle.plan_bytes.specs.Record.{recordEntry, recordRow, recordOf, re
 use Rattle.plan_bytes.proofs.Fours.{entry-byte, row-byte, entry-four, row-four}
 
 module _ (p : Plan) (nodes-long : length (p .nodes) ≡ 16) (rows-long : length (p .rows) ≡ 127) where
-  byte-is : (o : ℕ) → o < 591 → byte (recordBytes p) o ≡ recordByte p o
+  byte-is : (o : ℕ) → o < 592 → byte (recordBytes p) o ≡ recordByte p o
   unfolding recordBytes
-  byte-is o h = getD-tab 591 (recordByte p) o 0 h
+  byte-is o h = getD-tab 592 (recordByte p) o 0 h
 
   head-byte : (o : ℕ) → o < 19 → byte (recordBytes p) o ≡ getD (recordHead (p .revision) (p .nodecount) (p .rowcount) (p .times)) o 0
   unfolding recordByte
@@ -69,7 +69,7 @@ module _ (p : Plan) (nodes-long : length (p .nodes) ≡ 16) (rows-long : length 
       at m o a b =
           let z : o - 83 ≡ 4 * j + m = omega arith in
           let y : 0 + j ≡ j = omega arith in
-          byte-is o (omega arith) ∙ rw (le-ltb o 19 (omega arith), le-ltb o 83 (omega arith), z) (sym (row-four (p .rows) 0 j m a) ∙ ap (λ x. getD (rowBytes (rowAt (p .rows) x)) m 0) y)
+          byte-is o (omega arith) ∙ rw (le-ltb o 19 (omega arith), le-ltb o 83 (omega arith), lt-ltb o 591 (omega arith), z) (sym (row-four (p .rows) 0 j m a) ∙ ap (λ x. getD (rowBytes (rowAt (p .rows) x)) m 0) y)
 
   nodes-back : tab 16 (recordEntry (recordBytes p)) ≡ p .nodes
   nodes-back = sym (tab-of zeroEntry 16 (recordEntry (recordBytes p)) (p .nodes) nodes-long (λ k h. sym (entry-back k h)))
@@ -77,12 +77,17 @@ module _ (p : Plan) (nodes-long : length (p .nodes) ≡ 16) (rows-long : length 
   rows-back : tab 127 (recordRow (recordBytes p)) ≡ p .rows
   rows-back = sym (tab-of zeroRow 127 (recordRow (recordBytes p)) (p .rows) rows-long (λ j h. sym (row-back j h)))
 
+  profile-back : byte (recordBytes p) 591 ≡ p .profile
+  unfolding recordByte
+  profile-back = byte-is 591 (omega arith)
+
   -- unpacking what was packed gives the plan back
   pub record-back : recordOf (recordBytes p) ≡ p
   unfolding recordOf recordHead recordBytes
   record-back =
-      rw (eq-eqb (length (recordBytes p)) 591 (length-tab 591 (recordByte p))) λ i. record {
+      rw (eq-eqb (length (recordBytes p)) 592 (length-tab 592 (recordByte p))) λ i. record {
         revision = from-halves _ _ _ (head-byte 0 (omega arith)) (head-byte 1 (omega arith)) i;
+        profile = profile-back i;
         nodecount = head-byte 2 (omega arith) i;
         times = times-back i;
         nodes = nodes-back i;
@@ -90,14 +95,18 @@ module _ (p : Plan) (nodes-long : length (p .nodes) ≡ 16) (rows-long : length 
         rows = rows-back i;
       }
 
-module _ (s : List ℕ) (size : length s ≡ 591) where
+module _ (s : List ℕ) (size : length s ≡ 592) where
   nodes-are : recordOf s .nodes ≡ tab 16 (recordEntry s)
   unfolding recordOf
-  nodes-are = rw (eq-eqb (length s) 591 size)
+  nodes-are = rw (eq-eqb (length s) 592 size)
 
   rows-are : recordOf s .rows ≡ tab 127 (recordRow s)
   unfolding recordOf
-  rows-are = rw (eq-eqb (length s) 591 size)
+  rows-are = rw (eq-eqb (length s) 592 size)
+
+  pub profile-is : recordOf s .profile ≡ byte s 591
+  unfolding recordOf
+  profile-is = rw (eq-eqb (length s) 592 size)
 
   entry-is : (k i : ℕ) → k < 16 → i < 4 → getD (entryBytes (entryAt (recordOf s .nodes) k)) i 0 ≡ byte s (19 + 4 * k + i)
   entry-is k i a b =
@@ -120,7 +129,7 @@ module _ (s : List ℕ) (size : length s ≡ 591) where
       let z : 83 + 4 * (first + i / 4) + i % 4 ≡ 83 + 4 * first + i = omega arith in
       row-is (first + i / 4) (i % 4) (omega arith) (omega arith) ∙ ap (byte s) z
 
-module _ (s : List ℕ) (size : length s ≡ 591) (bytes : (o : ℕ) → byte s o < 256) where
+module _ (s : List ℕ) (size : length s ≡ 592) (bytes : (o : ℕ) → byte s o < 256) where
   high : (o : ℕ) → highByte (number s o) ≡ byte s o
   high o = high-at s o (bytes (o + 1))
 
@@ -130,22 +139,25 @@ module _ (s : List ℕ) (size : length s ≡ 591) (bytes : (o : ℕ) → byte s 
   head-is : recordHead (recordOf s .revision) (recordOf s .nodecount) (recordOf s .rowcount) (recordOf s .times) ≡ tab 19 (byte s)
   unfolding recordHead recordOf timesFrom tab
   head-is =
-      rw (eq-eqb (length s) 591 size) cc (high 0, low 0, high 3, low 3, high 5, low 5, high 7, low 7, high 9, low 9, high 11, low 11, high 13, low 13, high 15, low 15, high 17, low 17)
+      rw (eq-eqb (length s) 592 size) cc (high 0, low 0, high 3, low 3, high 5, low 5, high 7, low 7, high 9, low 9, high 11, low 11, high 13, low 13, high 15, low 15, high 17, low 17)
 
-  data-is : (o : ℕ) → o < 591 → recordByte (recordOf s) o ≡ byte s o
+  data-is : (o : ℕ) → o < 592 → recordByte (recordOf s) o ≡ byte s o
   unfolding recordByte
-  data-is o h = go (decLt o 19) (decLt o 83)
+  data-is o h = go (decLt o 19) (decLt o 83) (decLt o 591)
     where
-      go : Dec (o < 19) → Dec (o < 83) → recordByte (recordOf s) o ≡ byte s o
-      go (yes a) b = rw (lt-ltb o 19 a) (ap (λ l. getD l o 0) head-is ∙ getD-tab 19 (byte s) o 0 a)
-      go (no a) (yes b) =
+      go : Dec (o < 19) → Dec (o < 83) → Dec (o < 591) → recordByte (recordOf s) o ≡ byte s o
+      go (yes a) b d = rw (lt-ltb o 19 a) (ap (λ l. getD l o 0) head-is ∙ getD-tab 19 (byte s) o 0 a)
+      go (no a) (yes b) d =
           let z : 19 + (o - 19) ≡ o = omega arith in
           rw (le-ltb o 19 (omega arith), lt-ltb o 83 b) (entry-in s size (o - 19) (omega arith) ∙ ap (byte s) z)
-      go (no a) (no b) =
+      go (no a) (no b) (yes d) =
           let z : 83 + 4 * 0 + (o - 83) ≡ o = omega arith in
-          rw (le-ltb o 19 (omega arith), le-ltb o 83 (omega arith)) (row-in s size 0 (o - 83) (omega arith) ∙ ap (byte s) z)
+          rw (le-ltb o 19 (omega arith), le-ltb o 83 (omega arith), lt-ltb o 591 d) (row-in s size 0 (o - 83) (omega arith) ∙ ap (byte s) z)
+      go (no a) (no b) (no d) =
+          let z : o ≡ 591 = omega arith in
+          rw (le-ltb o 19 (omega arith), le-ltb o 83 (omega arith), le-ltb o 591 (omega arith)) (profile-is s size ∙ ap (byte s) (sym z))
 
   -- packing what was unpacked gives the bytes back
   pub bytes-back : recordBytes (recordOf s) ≡ s
   unfolding recordBytes
-  bytes-back = sym (tab-of 0 591 (recordByte (recordOf s)) s size (λ o h. sym (data-is o h)))
+  bytes-back = sym (tab-of 0 592 (recordByte (recordOf s)) s size (λ o h. sym (data-is o h)))

@@ -6,6 +6,7 @@ use native.Mathlib.Omega.{arith}
 use borrow.Author.Tests.{eq-eqb, ne-eqb, le-leb, lt-leb}
 use Rattle.folds.specs.Fold.{pick, allTo}
 use Rattle.plan.specs.declared.Plan.{Plan}
+use Rattle.plan.specs.Profile.{profileRight}
 use Rattle.plan.specs.Record.{rowsUsed}
 use Rattle.plan.specs.Rules.{timesRight, nodeRight, nodesRight, rowRight, rowsRight, publishes, allPublish, planRefusal}
 use Rattle.plan_bytes.specs.RowsRefusal.{rowsRefusal}
@@ -41,30 +42,35 @@ module _ (p : Plan) where
       let e : rowsUsed (p .rowcount) ≡ p .rowcount = omega arith in
       ap (λ n. allTo (publishes (p .rows) n) (p .nodecount)) e
 
-  pub by-4 : p .revision ≡ 0 → 4 ≡ planRefusal p
+  pub by-3 : profileRight (p .profile) ≡ false → 3 ≡ planRefusal p
   unfolding planRefusal
-  by-4 e = rw (eq-eqb (p .revision) 0 e)
+  by-3 e = rw e
 
-  module _ (a : p .revision ≡ 0 → ⊥) where
-    pub by-5 : timesRight (p .times) ≡ false → 5 ≡ planRefusal p
+  module _ (z : profileRight (p .profile) ≡ true) where
+    pub by-4 : p .revision ≡ 0 → 4 ≡ planRefusal p
     unfolding planRefusal
-    by-5 e = rw (ne-eqb (p .revision) 0 a, e)
+    by-4 e = rw (z, eq-eqb (p .revision) 0 e)
 
-    module _ (b : timesRight (p .times) ≡ true) where
-      pub by-6 : nodesRight p ≡ false → 6 ≡ planRefusal p
+    module _ (a : p .revision ≡ 0 → ⊥) where
+      pub by-5 : timesRight (p .times) ≡ false → 5 ≡ planRefusal p
       unfolding planRefusal
-      by-6 e = rw (ne-eqb (p .revision) 0 a, b, e)
+      by-5 e = rw (z, ne-eqb (p .revision) 0 a, e)
 
-      module _ (d : nodesRight p ≡ true) where
-        pub by-7 : rowsRight p ≡ false → 7 ≡ planRefusal p
+      module _ (b : timesRight (p .times) ≡ true) where
+        pub by-6 : nodesRight p ≡ false → 6 ≡ planRefusal p
         unfolding planRefusal
-        by-7 e = rw (ne-eqb (p .revision) 0 a, b, d, e)
+        by-6 e = rw (z, ne-eqb (p .revision) 0 a, b, e)
 
-        pub by-rows : (r : ℕ) → 1 ≤ p .rowcount → p .rowcount ≤ 127 → r ≡ rowsRefusal (p .rows) (p .nodecount) (p .rowcount) → r ≡ planRefusal p
-        unfolding planRefusal rowsRefusal
-        by-rows r l m e = e ∙ go (allTo (rowRight (p .nodecount) (p .rows)) (p .rowcount)) (allTo (publishes (p .rows) (p .rowcount)) (p .nodecount)) (rows-each l m) (all-rows m)
-          where
-            go : (x y : Bool) → rowsRight p ≡ x → allPublish p ≡ y → pick x (pick y 0 8) 7 ≡ planRefusal p
-            go true true u v = rw (ne-eqb (p .revision) 0 a, b, d, u, v)
-            go true false u v = rw (ne-eqb (p .revision) 0 a, b, d, u, v)
-            go false y u v = rw (ne-eqb (p .revision) 0 a, b, d, u)
+        module _ (d : nodesRight p ≡ true) where
+          pub by-7 : rowsRight p ≡ false → 7 ≡ planRefusal p
+          unfolding planRefusal
+          by-7 e = rw (z, ne-eqb (p .revision) 0 a, b, d, e)
+
+          pub by-rows : (r : ℕ) → 1 ≤ p .rowcount → p .rowcount ≤ 127 → r ≡ rowsRefusal (p .rows) (p .nodecount) (p .rowcount) → r ≡ planRefusal p
+          unfolding planRefusal rowsRefusal
+          by-rows r l m e = e ∙ go (allTo (rowRight (p .nodecount) (p .rows)) (p .rowcount)) (allTo (publishes (p .rows) (p .rowcount)) (p .nodecount)) (rows-each l m) (all-rows m)
+            where
+              go : (x y : Bool) → rowsRight p ≡ x → allPublish p ≡ y → pick x (pick y 0 8) 7 ≡ planRefusal p
+              go true true u v = rw (z, ne-eqb (p .revision) 0 a, b, d, u, v)
+              go true false u v = rw (z, ne-eqb (p .revision) 0 a, b, d, u, v)
+              go false y u v = rw (z, ne-eqb (p .revision) 0 a, b, d, u)

@@ -25,6 +25,10 @@ entriesAt = 19
 abbrev pub rowsAt : ℕ
 rowsAt = 83
 
+-- one byte
+abbrev pub profileAt : ℕ
+profileAt = 591
+
 -- the bytes of a record
 abbrev pub recordLength : ℕ
-recordLength = 591
+recordLength = 592

@@ -12,7 +12,7 @@ use Rattle.plan.specs.declared.Plan.{Plan}
 use Rattle.plan.specs.Limits.{maxNodes, maxRows}
 use Rattle.plan.specs.Record.{zeroPlan}
 use Rattle.plan_bytes.specs.Entries.{timesFrom, timesBytes, entryFrom, entryByteAt, rowFrom, rowByteFrom}
-use Rattle.plan_bytes.specs.Places.{revisionAt, nodecountAt, rowcountAt, timesAt, entriesAt, rowsAt, recordLength}
+use Rattle.plan_bytes.specs.Places.{revisionAt, nodecountAt, rowcountAt, timesAt, entriesAt, rowsAt, profileAt, recordLength}
 
 -- the entry and the row at a place
 abbrev pub recordEntry : List ℕ → ℕ → NodeEntry
@@ -30,7 +30,7 @@ rowsIn s = tab maxRows (recordRow s)
 -- the plan in the bytes of a record
 abbrev pub planIn : List ℕ → Plan
 planIn s =
-    record { revision = number s revisionAt; nodecount = byte s nodecountAt; times = timesFrom s timesAt; nodes = nodesIn s; rowcount = number s rowcountAt; rows = rowsIn s }
+    record { revision = number s revisionAt; profile = byte s profileAt; nodecount = byte s nodecountAt; times = timesFrom s timesAt; nodes = nodesIn s; rowcount = number s rowcountAt; rows = rowsIn s }
 
 -- bytes of another length are the all-zero record
 unfoldable pub recordOf : List ℕ → Plan
@@ -44,7 +44,8 @@ recordHead revision nodecount rowcount times = twoBytes revision ++ nodecount �
 unfoldable pub recordByte : Plan → ℕ → ℕ
 recordByte p o =
     pick (ltb o entriesAt) (getD (recordHead (p .revision) (p .nodecount) (p .rowcount) (p .times)) o 0)
-    (pick (ltb o rowsAt) (entryByteAt (p .nodes) (o - entriesAt)) (rowByteFrom (p .rows) 0 (o - rowsAt)))
+    (pick (ltb o rowsAt) (entryByteAt (p .nodes) (o - entriesAt))
+    (pick (ltb o profileAt) (rowByteFrom (p .rows) 0 (o - rowsAt)) (p .profile)))
 
 unfoldable pub recordBytes : Plan → List ℕ
 recordBytes p = tab recordLength (recordByte p)

@@ -11,6 +11,7 @@ ghost use Rattle.plan_bytes.specs.Places.{rowcountAt, recordLength};
 ghost use Rattle.plan_bytes.specs.Record.{recordEntry, recordRow, planIn};
 use crate::places::ENTRIES_AT;
 use crate::places::NODECOUNT_AT;
+use crate::places::PROFILE_AT;
 use crate::places::REVISION_AT;
 use crate::places::ROWCOUNT_AT;
 use crate::places::ROWS_AT;
@@ -59,6 +60,13 @@ pub(crate) fn revision_in(bytes: &[u8]) -> u16
     ensures { λ r. ⌜ r ≡ planIn (now (bytes .entry)) .revision ⌝ }
 {
     number_at(bytes, REVISION_AT)
+}
+
+pub(crate) fn profile_in(bytes: &[u8]) -> u8
+    requires { ⌜ length (now bytes) ≡ recordLength ⌝ }
+    ensures { λ r. ⌜ r ≡ planIn (now (bytes .entry)) .profile ⌝ }
+{
+    bytes[PROFILE_AT]
 }
 
 pub(crate) fn row_count_in(bytes: &[u8]) -> u16

@@ -19,9 +19,10 @@ pub use packing::bytes_of;
 pub use packing::record_head;
 pub use places::ENTRIES_AT;
 pub use places::LENGTH;
+pub use places::PROFILE_AT;
 pub use places::ROWS_AT;
 
-// The number of the first of the rules 4 to 8 that the plan breaks, 0 where it keeps them.
+// The number of the first of the rules 3 to 8 that the plan breaks, 0 where it keeps them.
 pub fn refusal_of(bytes: &[u8]) -> u8
     ensures { λ r. ⌜ r ≡ planRefusal (recordOf (now (bytes .entry))) ⌝ }
 {
@@ -48,6 +49,16 @@ pub fn revision_of(bytes: &[u8]) -> u16
 {
     if bytes.len() == LENGTH {
         fields::revision_in(bytes)
+    } else {
+        0
+    }
+}
+
+pub fn profile_of(bytes: &[u8]) -> u8
+    ensures { λ r. ⌜ r ≡ recordOf (now (bytes .entry)) .profile ⌝ }
+{
+    if bytes.len() == LENGTH {
+        fields::profile_in(bytes)
     } else {
         0
     }

@@ -11,6 +11,7 @@ ghost use Rattle.plan_bytes.specs.Places.{entriesAt, rowsAt};
 ghost use Rattle.plan_bytes.specs.Record.{recordOf, recordHead, recordBytes};
 use crate::places::ENTRIES_AT;
 use crate::places::LENGTH;
+use crate::places::PROFILE_AT;
 use crate::places::ROWS_AT;
 use blocks::put;
 use plan::NodeEntry;
@@ -104,5 +105,6 @@ pub fn bytes_of(p: Plan) -> [u8; LENGTH]
     put(&mut bytes[..], 0, &head[..]);
     put_entries(&mut bytes[..], nodes);
     put_rows(&mut bytes[..], rows);
+    bytes[PROFILE_AT] = p.profile;
     bytes
 }

@@ -1,6 +1,6 @@
 // Where a packed plan record has its fields: the numbers of specs/Places.
 
-pub const LENGTH: usize = 591;
+pub const LENGTH: usize = 592;
 
 pub(crate) const REVISION_AT: usize = 0;
 
@@ -13,3 +13,5 @@ pub(crate) const TIMES_AT: usize = 5;
 pub const ENTRIES_AT: usize = 19;
 
 pub const ROWS_AT: usize = 83;
+
+pub const PROFILE_AT: usize = 591;

@@ -71,6 +71,9 @@ pub(crate) fn refusal_in(bytes: &[u8]) -> u8
     requires { ⌜ length (now bytes) ≡ recordLength ⌝ }
     ensures { λ r. ⌜ r ≡ planRefusal (planIn (now (bytes .entry))) ⌝ }
 {
+    if !plan::profile_right(fields::profile_in(bytes)) {
+        return 3;
+    }
     if fields::revision_in(bytes) == 0 {
         return 4;
     }

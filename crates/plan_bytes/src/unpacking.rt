@@ -43,6 +43,7 @@ pub(crate) fn plan_in(bytes: &[u8]) -> Plan
     let rows = rows_in(bytes);
     Plan {
         revision: fields::revision_in(bytes),
+        profile: fields::profile_in(bytes),
         nodecount: fields::node_count_in(bytes),
         times,
         nodes,

@@ -6,6 +6,7 @@ use mathlib.Core.Bool.{true}
 use native.Mathlib.Omega.{arith}
 use Rattle.folds.proofs.AllAny.{and-l, and-r}
 use Rattle.folds.proofs.Rules.{none-only}
+use Rattle.plan.specs.Profile.{profileRight}
 use Rattle.plan.specs.Rules.{revisionRight, rowsRight, planRefusal}
 use Rattle.reader.specs.Layout.{planOf}
 use Rattle.reader.specs.Rules.{lengthRight, checksRight, typesRight, revisionsSame, countsRight, fillerRight}
@@ -28,9 +29,9 @@ accepted-set s e =
     record {
       size = kept 0;
       checks = kept 1;
-      types = kept 2;
+      types = and-l (typesRight s) (profileRight (p .profile)) (kept 2);
       revisions = and-l (revisionsSame s) (revisionRight p) (kept 3);
       counts = and-l (countsRight s) (rowsRight p) (kept 6);
       filler = kept 8;
-      plan = rw (and-r (revisionsSame s) (revisionRight p) (kept 3), kept 4, kept 5, and-r (countsRight s) (rowsRight p) (kept 6), kept 7);
+      plan = rw (and-r (typesRight s) (profileRight (p .profile)) (kept 2), and-r (revisionsSame s) (revisionRight p) (kept 3), kept 4, kept 5, and-r (countsRight s) (rowsRight p) (kept 6), kept 7);
     }

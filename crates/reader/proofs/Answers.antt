@@ -10,22 +10,27 @@ use native.Mathlib.Omega.{arith}
 use borrow.Author.Tests.{ne-eqb, lt-ltb, le-ltb}
 use Rattle.folds.specs.Fold.{pick}
 use Rattle.folds.specs.FirstBroken.{firstBroken}
+use Rattle.folds.proofs.AllAny.{and-r}
 use Rattle.folds.proofs.Choices.{by-test}
 use Rattle.folds.proofs.Rules.{front-number, rest-number, none-only}
 use Rattle.folds.proofs.Tables.{length-tab}
 use Rattle.blocks.specs.Bytes.{byte}
+use Rattle.plan.specs.Profile.{profileRight}
 use Rattle.plan.specs.Record.{zeroPlan}
 use Rattle.plan_bytes.specs.Record.{recordOf, recordBytes, recordWritten}
 use Rattle.plan_bytes.proofs.Records.{record-front, record-whole}
 use Rattle.plan_bytes.proofs.RecordTrip.{record-back}
 use Rattle.reader.specs.declared.ReadAnswer.{ReadAnswer}
 use Rattle.reader.specs.Layout.{nodeOf, nodesOf, rowcountOf, rowOf, rowsOf, planOf}
-use Rattle.reader.specs.Rules.{lengthRight, shapeRules, contentRules}
+use Rattle.reader.specs.Rules.{lengthRight, typesRight, shapeRules, contentRules}
 use Rattle.reader.specs.Read.{setRefusal, readSet, recordRefusal}
 
 module _ (s : List ℕ) where
   pub length-kept : firstBroken 1 (shapeRules s) ≡ 0 → lengthRight s ≡ true
   length-kept e = none-only 1 (shapeRules s) (omega arith) e 0
+
+  pub profile-kept : firstBroken 1 (shapeRules s) ≡ 0 → profileRight (planOf s .profile) ≡ true
+  profile-kept e = and-r (typesRight s) (profileRight (planOf s .profile)) (none-only 1 (shapeRules s) (omega arith) e 2)
 
   pub by-shape : (k : ℕ) → k ≡ firstBroken 1 (shapeRules s) → (k ≡ 0 → ⊥) → setRefusal s ≡ k
   unfolding setRefusal
@@ -42,14 +47,14 @@ module _ (s : List ℕ) where
     read-refused k e n f = rw (e, ne-eqb k 0 n) (refl, f)
 
     module _ (none : setRefusal s ≡ 0) where
-      pub read-short : length buffer < 591 → (10 ≡ recordRefusal s (length buffer)) × (buffer ≡ recordWritten (readSet s .plan) buffer)
-      read-short h = rw (none, lt-ltb (length buffer) 591 h) (refl, refl)
+      pub read-short : length buffer < 592 → (10 ≡ recordRefusal s (length buffer)) × (buffer ≡ recordWritten (readSet s .plan) buffer)
+      read-short h = rw (none, lt-ltb (length buffer) 592 h) (refl, refl)
 
-      pub read-done : (bytes : List ℕ) → 591 ≤ length buffer → bytes ≡ recordBytes (planOf s) → after ≡ sets buffer 0 bytes
+      pub read-done : (bytes : List ℕ) → 592 ≤ length buffer → bytes ≡ recordBytes (planOf s) → after ≡ sets buffer 0 bytes
           → (0 ≡ recordRefusal s (length buffer)) × (after ≡ recordWritten (readSet s .plan) buffer)
       unfolding readSet
       read-done bytes h e f =
-          rw (none, le-ltb (length buffer) 591 h) (refl, record-front (planOf s) buffer after (rw e at f) h)
+          rw (none, le-ltb (length buffer) 592 h) (refl, record-front (planOf s) buffer after (rw e at f) h)
 
   -- the packed record of a set gives the set's plan
   pub record-of-set : recordOf (recordBytes (planOf s)) ≡ planOf s
@@ -68,13 +73,13 @@ module _ (s : List ℕ) where
   pub read-record-back : recordOf (recordBytes (readSet s .plan)) ≡ readSet s .plan
   read-record-back = record-back (readSet s .plan) nodes-long rows-long
 
-  pub read-back : (d : List ℕ) → length d ≡ 591 → recordOf (recordWritten (readSet s .plan) d) ≡ readSet s .plan
+  pub read-back : (d : List ℕ) → length d ≡ 592 → recordOf (recordWritten (readSet s .plan) d) ≡ readSet s .plan
   read-back d n =
-      rw (le-ltb (length d) 591 (omega arith), record-whole (readSet s .plan) d n) read-record-back
+      rw (le-ltb (length d) 592 (omega arith), record-whole (readSet s .plan) d n) read-record-back
 
-  pub read-number : (room : ℕ) → 591 ≤ room → recordRefusal s room ≡ readSet s .refusal
+  pub read-number : (room : ℕ) → 592 ≤ room → recordRefusal s room ≡ readSet s .refusal
   unfolding readSet
-  read-number room h = rw (le-ltb room 591 h) (go (eqb (setRefusal s) 0) refl)
+  read-number room h = rw (le-ltb room 592 h) (go (eqb (setRefusal s) 0) refl)
     where
       go : (b : Bool) → eqb (setRefusal s) 0 ≡ b → pick (eqb (setRefusal s) 0) 0 (setRefusal s) ≡ readSet s .refusal
       go true e = rw e

@@ -10,6 +10,7 @@ use Rattle.folds.specs.Fold.{pick}
 use Rattle.folds.specs.FirstBroken.{firstBroken}
 use Rattle.folds.proofs.Rules.{front-number, rest-number}
 use Rattle.plan.specs.declared.Plan.{Plan}
+use Rattle.plan.specs.Profile.{profileRight}
 use Rattle.plan.specs.Rules.{inRange, revisionRight, timesRight, nodesRight, rowsRight, allPublish, planRules, planRefusal}
 use Rattle.reader.specs.Rules.{lengthRight, revisionsSame, countsRight, fillerRight, contentRules}
 
@@ -28,19 +29,19 @@ module _ (s : List ℕ) (p : Plan) where
   pub other-revision : revisionsSame s ≡ false → firstBroken 4 (contentRules s p) ≡ 4
   other-revision e = rw e
 
-  module _ (same : revisionsSame s ≡ true) where
+  module _ (right : profileRight (p .profile) ≡ true) (same : revisionsSame s ≡ true) where
     pub wrong-count : countsRight s ≡ false → firstBroken 4 (contentRules s p) ≡ pick (inRange 4 6 (planRefusal p)) (planRefusal p) 7
     unfolding planRefusal
-    wrong-count e = rw (same, e) (wrong-count-row (revisionRight p) (timesRight (p .times)) (nodesRight p) (rowsRight p) (allPublish p) (fillerRight s))
+    wrong-count e = rw (right, same, e) (wrong-count-row (revisionRight p) (timesRight (p .times)) (nodesRight p) (rowsRight p) (allPublish p) (fillerRight s))
 
     module _ (counts : countsRight s ≡ true) where
       pub plan-refused : (planRefusal p ≡ 0 → ⊥) → firstBroken 4 (contentRules s p) ≡ planRefusal p
       unfolding planRefusal
-      plan-refused n = rw (same, counts) (front-number 4 (planRules p) (fillerRight s ∷ []) n)
+      plan-refused n = rw (right, same, counts) (rw right at (front-number 3 (planRules p) (fillerRight s ∷ []) n))
 
       pub filler-last : planRefusal p ≡ 0 → firstBroken 4 (contentRules s p) ≡ firstBroken 9 (fillerRight s ∷ [])
       unfolding planRefusal
-      filler-last e = rw (same, counts) (rest-number 4 (planRules p) (fillerRight s ∷ []) (omega arith) e)
+      filler-last e = rw (same, counts) (rw right at (rest-number 3 (planRules p) (fillerRight s ∷ []) (omega arith) e))
 
 -- a right length that is not the short one
 pub length-long : (s : List ℕ) → lengthRight s ≡ true → (length s ≡ 1024 → ⊥) → length s ≡ 1536

@@ -36,24 +36,20 @@ module _ (s : List ℕ) where
   unfolding fillerAt named
   in-plan o h = rw (lt-ltb o 512 h)
 
-  -- three runs of zeros, between the named ranges
-  pub plan-runs : (a : ℕ) (x y z : Bool) → FillerStart 32 (byte s 4) a
-      → x ≡ allTo (isZero s 5) 1 → y ≡ allTo (isZero s 20) 12 → z ≡ allTo (isZero s a) (510 - a) → (x && y && z) ≡ allTo (fillerAt s) 512
-  plan-runs a x y z h u v w =
+  -- two runs of zeros, between the named ranges
+  pub plan-runs : (a : ℕ) (x y : Bool) → FillerStart 32 (byte s 4) a
+      → x ≡ allTo (isZero s 20) 12 → y ≡ allTo (isZero s a) (510 - a) → (x && y) ≡ allTo (fillerAt s) 512
+  plan-runs a x y h u v =
       let f = fillerAt s in
-      let e1 : allTo f 5 ≡ true = sym (all-upto f 0 5 (omega arith) (λ i p q. in-plan i (omega arith) ∙ rw (lt-ltb i 5 q))) ∙ all-none f in
-      let e2 : allTo f 6 ≡ (allTo f 5 && allTo (isZero s 5) 1) = zero-run-front s f 5 6 (omega arith) (λ i p q. in-plan i (omega arith)
-      ∙ rw (le-ltb i 5 p, lt-leb 6 i q, lt-leb 32 i (omega arith), lt-leb 510 i (omega arith))) in
-      let e3 : allTo f 6 ≡ allTo f 20 = all-upto f 6 20 (omega arith) (λ i p q. in-plan i (omega arith) ∙ rw (le-ltb i 5 (omega arith), le-leb 6 i p, lt-ltb i 20 q)) in
-      let e4 : allTo f 32 ≡ (allTo f 20 && allTo (isZero s 20) 12) = zero-run-front s f 20 32 (omega arith) (λ i p q. in-plan i (omega arith)
-      ∙ rw (le-ltb i 5 (omega arith), le-leb 6 i (omega arith), le-ltb i 20 p, lt-leb 32 i q, lt-leb 510 i (omega arith))) in
-      let e5 : allTo f 32 ≡ allTo f a = all-upto f 32 a (h .low) (λ i p q. in-plan i (omega arith)
-      ∙ rw (le-ltb i 5 (omega arith), le-leb 6 i (omega arith), le-ltb i 20 (omega arith), le-leb 32 i p, lt-ltb i (32 + 4 * byte s 4) (omega arith))) in
-      let e6 : allTo f 510 ≡ (allTo f a && allTo (isZero s a) (510 - a)) = zero-run-front s f a 510 (h .high) (λ i p q. in-plan i (omega arith)
-      ∙ rw (le-ltb i 5 (omega arith), le-leb 6 i (omega arith), le-ltb i 20 (omega arith), le-leb 32 i (omega arith), le-ltb i (32 + 4 * byte s 4) (h .free i p q), lt-leb 510 i q)) in
-      let e7 : allTo f 510 ≡ allTo f 512 = all-upto f 510 512 (omega arith) (λ i p q. in-plan i q
-      ∙ rw (le-leb 510 i p, or-true)) in
-      rw (u, v, w) (sym (sym e7 ∙ rw (e6, ← e5, e4, ← e3, e2, e1)))
+      let e1 : allTo f 20 ≡ true = sym (all-upto f 0 20 (omega arith) (λ i p q. in-plan i (omega arith) ∙ rw (lt-ltb i 20 q))) ∙ all-none f in
+      let e2 : allTo f 32 ≡ (allTo f 20 && allTo (isZero s 20) 12) = zero-run-front s f 20 32 (omega arith) (λ i p q. in-plan i (omega arith)
+      ∙ rw (le-ltb i 20 p, lt-leb 32 i q, lt-leb 510 i (omega arith))) in
+      let e3 : allTo f 32 ≡ allTo f a = all-upto f 32 a (h .low) (λ i p q. in-plan i (omega arith)
+      ∙ rw (le-ltb i 20 (omega arith), le-leb 32 i p, lt-ltb i (32 + 4 * byte s 4) (omega arith))) in
+      let e4 : allTo f 510 ≡ (allTo f a && allTo (isZero s a) (510 - a)) = zero-run-front s f a 510 (h .high) (λ i p q. in-plan i (omega arith)
+      ∙ rw (le-ltb i 20 (omega arith), le-leb 32 i (omega arith), le-ltb i (32 + 4 * byte s 4) (h .free i p q), lt-leb 510 i q)) in
+      let e5 : allTo f 510 ≡ allTo f 512 = all-upto f 510 512 (omega arith) (λ i p q. in-plan i q ∙ rw (le-leb 510 i p, or-true)) in
+      rw (u, v) (sym (sym e5 ∙ rw (e4, ← e3, e2, e1)))
 
   module _ (b : ℕ) (first : 1 ≤ b) where
     in-message : (o : ℕ) → o < 512 → messageFillerAt s b o ≡ (messageNamed (byte s (512 * b + 4)) o || eqb (byte s (512 * b + o)) 0)

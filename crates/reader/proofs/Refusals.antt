@@ -8,6 +8,7 @@ use lib.Dec.{eqb}
 use native.Mathlib.Omega.{arith}
 use borrow.Author.Tests.{eqb-true}
 use Rattle.folds.proofs.Rules.{BrokenAt, number-only, number-given, none-only, none-given}
+use Rattle.plan.specs.Profile.{profileRight}
 use Rattle.plan.specs.Rules.{revisionRight}
 use Rattle.reader.specs.Layout.{planOf}
 use Rattle.reader.specs.Rules.{lengthRight, checksRight, typesRight, revisionsSame}
@@ -40,11 +41,11 @@ module _ (s : List ℕ) where
   unfolding setRefusal
   accepted-there h = answer-number ∙ none-given 1 (setRules s) h
 
-  -- 4, spelt out: blocks of two revisions, in a set whose lengths, checks and types are right
+  -- 4, spelt out: blocks of two revisions, in a set whose length, checks, types and profile are right
   pub record OtherRevision : Type 0 where
     pub size : lengthRight s ≡ true
     pub checks : checksRight s ≡ true
-    pub types : typesRight s ≡ true
+    pub types : (typesRight s && profileRight (planOf s .profile)) ≡ true
     pub other : (revisionsSame s && revisionRight (planOf s)) ≡ false
 
   pub four-only : readSet s .refusal ≡ 4 → OtherRevision

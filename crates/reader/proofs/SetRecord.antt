@@ -32,7 +32,7 @@ four-zeros (suc (suc (suc (suc m)))) = refl
 -- the rows of two message blocks, then zeros
 two-parts : (f : ℕ → ℕ) (s : List ℕ) (end : ℕ) (d x y z : List ℕ) → 1536 ≤ length s → 400 ≤ end → end ≤ 508
     → x ≡ sets d 83 (take (520 + 400 - 520) (drop 520 s)) → y ≡ sets x (83 + 400) (take (1032 + (end - 400) - 1032) (drop 1032 s)) → z ≡ sets y (83 + end) (replicate (508 - end) 0)
-    → 591 ≤ length d → ((i : ℕ) → i < 400 → byte s (520 + i) ≡ f i) → ((i : ℕ) → 400 ≤ i → i < end → byte s (1032 + (i - 400)) ≡ f i) → ((i : ℕ) → end ≤ i → i < 508 → 0 ≡ f i)
+    → 592 ≤ length d → ((i : ℕ) → i < 400 → byte s (520 + i) ≡ f i) → ((i : ℕ) → 400 ≤ i → i < end → byte s (1032 + (i - 400)) ≡ f i) → ((i : ℕ) → end ≤ i → i < 508 → 0 ≡ f i)
     → Put 83 508 f d z
 two-parts f s end d x y z size a b e e2 w long first second none =
     let u : Put 83 400 (λ i. byte s (520 + i)) d x = put-slice 83 520 400 s d x e (omega arith) (omega arith) in
@@ -102,20 +102,20 @@ module _ (s : List ℕ) (count : ℕ) where
       go false e = rw e
 
   pub entries-put : (end : ℕ) (d x y : List ℕ) → 1024 ≤ length s → end ≡ 4 * min count 16 → x ≡ sets d 19 (take (32 + end - 32) (drop 32 s))
-      → y ≡ sets x (19 + end) (replicate (64 - end) 0) → 591 ≤ length d → Put 19 64 (entryByteAt (nodesOf s count)) d y
+      → y ≡ sets x (19 + end) (replicate (64 - end) 0) → 592 ≤ length d → Put 19 64 (entryByteAt (nodesOf s count)) d y
   entries-put end d x y size is e z long =
       let same : 32 + end - 32 ≡ end = omega arith in
       put-filled 19 32 end 64 _ s d x y (rw same at e) z (omega arith) (omega arith) (omega arith) (λ i q. entry-used i (omega arith)) (λ i a b. entry-unused i (omega arith) b)
 
   pub rows-put-short : (end : ℕ) (d x y : List ℕ) → length s ≡ 1024 → end ≡ 4 * min count 100 → x ≡ sets d 83 (take (520 + end - 520) (drop 520 s))
-      → y ≡ sets x (83 + end) (replicate (508 - end) 0) → 591 ≤ length d → Put 83 508 (rowByteFrom (rowsOf s count) 0) d y
+      → y ≡ sets x (83 + end) (replicate (508 - end) 0) → 592 ≤ length d → Put 83 508 (rowByteFrom (rowsOf s count) 0) d y
   rows-put-short end d x y size is e z long =
       let same : 520 + end - 520 ≡ end = omega arith in
       put-filled 83 520 end 508 _ s d x y (rw same at e) z (omega arith) (omega arith) (omega arith) (λ i q. row-first i (omega arith)) (λ i a b. row-short size i (omega arith) b)
 
   pub rows-put-long : (first end : ℕ) (d x y z : List ℕ) → 1536 ≤ length s → 100 ≤ count → first ≡ 4 * min count 100 → end ≡ 4 * min count 127
       → x ≡ sets d 83 (take (520 + first - 520) (drop 520 s)) → y ≡ sets x (83 + first) (take (1032 + (end - first) - 1032) (drop 1032 s))
-      → z ≡ sets y (83 + end) (replicate (508 - end) 0) → 591 ≤ length d → Put 83 508 (rowByteFrom (rowsOf s count) 0) d z
+      → z ≡ sets y (83 + end) (replicate (508 - end) 0) → 592 ≤ length d → Put 83 508 (rowByteFrom (rowsOf s count) 0) d z
   rows-put-long first end d x y z size many is is2 e e2 w long =
       let c : first ≡ 400 = omega arith in
       let a : 400 ≤ end = omega arith in

@@ -39,7 +39,7 @@ oneMessageBlock s = eqb (length s) 1024
 unfoldable pub rowcountOf : List ℕ → ℕ
 rowcountOf s = pick (oneMessageBlock s) (byte s 516) (blockRows + byte s 1028)
 
--- "2-3 revision", "4 = N, nodes", "6-19 seven times"
+-- "2-3 revision", "4 = N, nodes", "Byte 5 .. is 1 for this profile and 0 otherwise", "6-19 seven times"
 unfoldable pub planOf : List ℕ → Plan
 planOf s =
-    record { revision = number s 2; nodecount = byte s 4; times = timesFrom s 6; nodes = nodesOf s (byte s 4); rowcount = rowcountOf s; rows = rowsOf s (rowcountOf s) }
+    record { revision = number s 2; profile = byte s 5; nodecount = byte s 4; times = timesFrom s 6; nodes = nodesOf s (byte s 4); rowcount = rowcountOf s; rows = rowsOf s (rowcountOf s) }

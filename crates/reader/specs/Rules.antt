@@ -10,8 +10,9 @@ use Rattle.blocks.specs.Check.{blockCheck}
 use Rattle.blocks.specs.Limits.{blockLength}
 use Rattle.plan.specs.declared.Plan.{Plan}
 use Rattle.plan.specs.Limits.{blockRows}
+use Rattle.plan.specs.Profile.{profileRight}
 use Rattle.plan.specs.Rules.{inRange, revisionRight, timesRight, nodesRight, rowsRight, allPublish}
-use Rattle.reader.specs.Layout.{oneMessageBlock}
+use Rattle.reader.specs.Layout.{oneMessageBlock, planOf}
 
 -- "each over all blocks": the plan block, one message block, a second unless the length is that of one
 abbrev pub eachBlock : List ℕ → (ℕ → Bool) → Bool
@@ -51,7 +52,7 @@ countsRight s = inRange 1 blockRows (byte s 516) && (oneMessageBlock s || eqb (b
 
 -- 9: "Unnamed bytes are zero": the offsets that have a name, in the plan block of so many nodes ..
 abbrev pub planNamed : ℕ → ℕ → Bool
-planNamed nodes o = ltb o 5 || leb 6 o && ltb o 20 || leb 32 o && ltb o (32 + 4 * nodes) || leb 510 o
+planNamed nodes o = ltb o 20 || leb 32 o && ltb o (32 + 4 * nodes) || leb 510 o
 
 -- .. and in a message block of so many rows
 abbrev pub messageNamed : ℕ → ℕ → Bool
@@ -66,9 +67,9 @@ fillerAt s o = named s o || eqb (byte s o) 0
 unfoldable pub fillerRight : List ℕ → Bool
 fillerRight s = allTo (fillerAt s) (length s)
 
--- 1 to 3, true where kept
+-- 1 to 3, true where kept; 3 "also for byte 5 above 1"
 abbrev pub shapeRules : List ℕ → List Bool
-shapeRules s = lengthRight s ∷ checksRight s ∷ typesRight s ∷ []
+shapeRules s = lengthRight s ∷ checksRight s ∷ (typesRight s && profileRight (planOf s .profile)) ∷ []
 
 -- 4 to 9, of the bytes and their record
 abbrev pub contentRules : List ℕ → Plan → List Bool

@@ -19,6 +19,7 @@ use blocks::put_zeros;
 use plan::Plan;
 use plan::Times;
 use plan_bytes::ENTRIES_AT;
+use plan_bytes::PROFILE_AT;
 use plan_bytes::ROWS_AT;
 
 fn times_of(s: &[u8]) -> Times
@@ -89,4 +90,5 @@ pub(crate) fn put_record(s: &[u8], buffer: &mut [u8])
     put(buffer, 0, &head[..]);
     put_entries(s, buffer);
     put_rows(s, rowcount_of(s) as usize, buffer);
+    buffer[PROFILE_AT] = byte_at(s, 5);
 }

@@ -4,6 +4,7 @@ ghost use mathlib.Core.Bool.{true};
 ghost use Prim.Native.Nat.{_≤_, _<_};
 ghost use Rattle.folds.specs.Fold.{allTo, pick};
 ghost use Rattle.folds.specs.FirstBroken.{firstBroken};
+ghost use Rattle.plan.specs.Profile.{profileRight};
 ghost use Rattle.plan.specs.Rules.{inRange, planRefusal};
 ghost use Rattle.blocks.specs.Limits.{blockLength};
 ghost use Rattle.reader.specs.Layout.{planOf};
@@ -73,7 +74,7 @@ pub(crate) fn shape_refusal(s: &[u8]) -> u8
     if !checks_right(s) {
         return 2;
     }
-    if !types_right(s) {
+    if !(types_right(s) & plan::profile_right(byte_at(s, 5))) {
         return 3;
     }
     0
@@ -120,7 +121,7 @@ fn plan_filler(s: &[u8]) -> bool
     ensures { λ r. ⌜ r ≡ allTo (fillerAt (now (s .entry))) blockLength ⌝ }
 {
     let start = filler_start(32, byte_at(s, 4));
-    are_zero(s, 5, 1) & are_zero(s, 20, 12) & are_zero(s, start as usize, 510 - start)
+    are_zero(s, 20, 12) & are_zero(s, start as usize, 510 - start)
 }
 
 fn message_filler(s: &[u8], b: usize) -> bool
@@ -156,7 +157,7 @@ fn with_wrong_count(refusal: u8) -> u8
 
 // Rules 4 to 9, of the bytes and their record, of which the refusal by the plan's rules is known.
 pub(crate) fn content_refusal(s: &[u8], refusal: u8) -> u8
-    requires { ⌜ (lengthRight (now s) ≡ true) × (refusal ≡ planRefusal (planOf (now s))) ⌝ }
+    requires { ⌜ (lengthRight (now s) ≡ true) × (profileRight (planOf (now s) .profile) ≡ true) × (refusal ≡ planRefusal (planOf (now s))) ⌝ }
     ensures { λ r. ⌜ r ≡ firstBroken 4 (contentRules (now (s .entry)) (planOf (now (s .entry)))) ⌝ }
 {
     if !revisions_same(s) {

@@ -23,7 +23,7 @@ plan-of-requires c κs = search needs
 returns : tie.Need-returns
 returns c =
     let a = c .before .before .before .read-record .ensures in
-    λ i. record { refusal = (a .0 ∙ read-number (c .before .before .before .before .before .before .args .set .now) 591 (omega arith)) i; plan = (c .plan-of .ensures ∙ ap recordOf (a .1) ∙ read-back (c .before .before .before .before .before .before .args .set .now) (replicate 591 0) refl) i }
+    λ i. record { refusal = (a .0 ∙ read-number (c .before .before .before .before .before .before .args .set .now) 592 (omega arith)) i; plan = (c .plan-of .ensures ∙ ap recordOf (a .1) ∙ read-back (c .before .before .before .before .before .before .args .set .now) (replicate 592 0) refl) i }
 
 pub read-spec : {M : Type 1} → statement M
 read-spec =

@@ -5,7 +5,7 @@ use native.Mathlib.Omega.{arith}
 use Rattle.plan.specs.Rules.{planRefusal}
 use Rattle.plan_bytes.specs.Record.{recordOf}
 use Rattle.plan_bytes.proofs.Records.{record-whole}
-use Rattle.reader.proofs.Answers.{length-kept, by-shape, by-content, read-refused, read-short, read-done, record-of-set}
+use Rattle.reader.proofs.Answers.{length-kept, profile-kept, by-shape, by-content, read-refused, read-short, read-done, record-of-set}
 use borrow.Author.Needs.{needs}
 use Rattle.reader.proofs.read_record.Statement.{statement}
 use Rattle.reader.proofs.read_record.Tie as tie
@@ -35,7 +35,10 @@ refusal-of-requires : tie.Need-refusal-of-requires
 refusal-of-requires c κs = search needs
 
 content-refusal-requires : tie.Need-content-refusal-requires
-content-refusal-requires c κs = (length-kept _ (let z : c .before .before .before .before .before .before .shape-refusal .result ≡ 0 = search needs in sym (c .before .before .before .before .before .before .shape-refusal .ensures) ∙ z), c .refusal-of .ensures ∙ ap planRefusal (ap recordOf (c .before .before .before .put-record .ensures ∙ record-whole _ (replicate 591 0) refl) ∙ record-of-set _))
+content-refusal-requires c κs =
+    let z : c .before .before .before .before .before .before .shape-refusal .result ≡ 0 = search needs in
+    let shape = sym (c .before .before .before .before .before .before .shape-refusal .ensures) ∙ z in
+    (length-kept _ shape, profile-kept _ shape, c .refusal-of .ensures ∙ ap planRefusal (ap recordOf (c .before .before .before .put-record .ensures ∙ record-whole _ (replicate 592 0) refl) ∙ record-of-set _))
 
 clear-requires-2 : tie.Need-clear-requires-2
 clear-requires-2 c κs = search needs
@@ -59,7 +62,7 @@ same-length-3 : tie.Need-same-length-3
 same-length-3 c = search needs
 
 returns-4 : tie.Need-returns-4
-returns-4 c = read-done (c .before .before .before .before .before .before .before .before .before .before .before .before .before .before .before .before .before .args .set .now) (c .before .before .before .before .before .before .before .before .before .before .before .before .before .before .before .before .before .args .buffer .now) _ (by-content _ (let z : c .before .before .before .before .before .before .before .before .before .before .before .before .before .before .shape-refusal .result ≡ 0 = search needs in sym (c .before .before .before .before .before .before .before .before .before .before .before .before .before .before .shape-refusal .ensures) ∙ z) _ (c .before .before .before .before .before .before .before .content-refusal .ensures) ∙ (let z : c .before .before .before .before .before .before .before .content-refusal .result ≡ 0 = search needs in z)) _ (search needs) (c .before .before .before .before .before .before .before .before .before .before .before .put-record .ensures ∙ record-whole _ (replicate 591 0) refl) (c .before .before .put .ensures)
+returns-4 c = read-done (c .before .before .before .before .before .before .before .before .before .before .before .before .before .before .before .before .before .args .set .now) (c .before .before .before .before .before .before .before .before .before .before .before .before .before .before .before .before .before .args .buffer .now) _ (by-content _ (let z : c .before .before .before .before .before .before .before .before .before .before .before .before .before .before .shape-refusal .result ≡ 0 = search needs in sym (c .before .before .before .before .before .before .before .before .before .before .before .before .before .before .shape-refusal .ensures) ∙ z) _ (c .before .before .before .before .before .before .before .content-refusal .ensures) ∙ (let z : c .before .before .before .before .before .before .before .content-refusal .result ≡ 0 = search needs in z)) _ (search needs) (c .before .before .before .before .before .before .before .before .before .before .before .put-record .ensures ∙ record-whole _ (replicate 592 0) refl) (c .before .before .put .ensures)
 
 pub read-record-spec : {M : Type 1} → statement M
 read-record-spec =

@@ -11,7 +11,7 @@ use Rattle.plan_bytes.proofs.fields.rising_row_in.Statement.{statement}
 use Rattle.plan_bytes.proofs.fields.rising_row_in.Tie as tie
 
 abbrev Inv-loop : tie.InvT-loop
-Inv-loop bytes reqid count j₀ j = (j ≤ 127) × (length bytes ≡ 591) × (lastAmong (rowsIn bytes) reqid j ≡ risingRow (planIn bytes) reqid)
+Inv-loop bytes reqid count j₀ j = (j ≤ 127) × (length bytes ≡ 592) × (lastAmong (rowsIn bytes) reqid j ≡ risingRow (planIn bytes) reqid)
 
 abbrev μ-loop : tie.MeasureT-loop
 μ-loop bytes reqid count j₀ j = j

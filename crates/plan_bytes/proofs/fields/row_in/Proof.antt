@@ -14,7 +14,7 @@ use Rattle.plan_bytes.proofs.fields.row_in.Statement.{statement}
 use Rattle.plan_bytes.proofs.fields.row_in.Tie as tie
 
 abbrev Inv-loop : tie.InvT-loop
-Inv-loop bytes reqid count j₀ j = (j ≤ count) × (length bytes ≡ 591) × (count ≤ 127) × (anyTo (hasReqid (rowsIn bytes) reqid) j ≡ false)
+Inv-loop bytes reqid count j₀ j = (j ≤ count) × (length bytes ≡ 592) × (count ≤ 127) × (anyTo (hasReqid (rowsIn bytes) reqid) j ≡ false)
 
 abbrev μ-loop : tie.MeasureT-loop
 μ-loop bytes reqid count j₀ j = count - j

@@ -34,11 +34,14 @@ slice-aggregate-put-rows c = search needs
 put-rows-requires : tie.Need-put-rows-requires
 put-rows-requires c κs = search needs
 
+array-write-bytes : tie.Need-array-write-bytes
+array-write-bytes c = search needs
+
 returns : tie.Need-returns
 returns c =
     let p = c .before .before .before .before .before .before .before .before .before .before .before .before .before .args .p in
-    let e = record-put p (replicate 591 0) _ _ _ _ (omega arith) (c .before .before .before .before .before .before .before .before .before .before .record-head .ensures) (c .before .before .before .before .before .before .before .put .ensures) (c .before .before .before .before .put-entries .ensures .0) (c .before .put-rows .ensures .0)
-    ∙ record-whole p (replicate 591 0) refl in
+    let e = record-put p (replicate 592 0) _ _ _ _ _ (omega arith) (c .before .before .before .before .before .before .before .before .before .before .record-head .ensures) (c .before .before .before .before .before .before .before .put .ensures) (c .before .before .before .before .put-entries .ensures .0) (c .before .put-rows .ensures .0) refl
+    ∙ record-whole p (replicate 592 0) refl in
     (e, ap recordOf e ∙ record-back p (c .before .before .before .before .put-entries .ensures .1) (c .before .put-rows .ensures .1))
 
 pub bytes-of-spec : {M : Type 1} → statement M
@@ -53,4 +56,5 @@ bytes-of-spec =
     put-entries-requires
     slice-aggregate-put-rows
     put-rows-requires
+    array-write-bytes
     returns)

@@ -16,7 +16,7 @@ use Rattle.plan_bytes.proofs.rules.each_node_right.Statement.{statement
 use Rattle.plan_bytes.proofs.rules.each_node_right.Tie as tie
 
 abbrev Inv-loop : tie.InvT-loop
-Inv-loop bytes count taken₀ k₀ taken k = (k ≤ count) × (length bytes ≡ 591) × (count ≤ 16) × (allTo (nodeRight (nodesIn bytes)) k ≡ true) × (length taken ≡ 256) × ((a : ℕ) → a < 256 → getD taken a false ≡ anyTo (hasAddress (nodesIn bytes) a) k)
+Inv-loop bytes count taken₀ k₀ taken k = (k ≤ count) × (length bytes ≡ 592) × (count ≤ 16) × (allTo (nodeRight (nodesIn bytes)) k ≡ true) × (length taken ≡ 256) × ((a : ℕ) → a < 256 → getD taken a false ≡ anyTo (hasAddress (nodesIn bytes) a) k)
 
 abbrev μ-loop : tie.MeasureT-loop
 μ-loop bytes count taken₀ k₀ taken k = count - k

@@ -15,7 +15,7 @@ use Rattle.plan_bytes.proofs.rules.rows_refusal.Statement.{statement}
 use Rattle.plan_bytes.proofs.rules.rows_refusal.Tie as tie
 
 abbrev Inv-loop : tie.InvT-loop
-Inv-loop bytes nodecount count seen₀ before₀ j₀ seen before j = (j ≤ count) × (length bytes ≡ 591) × (count ≤ 127) × (allTo (rowRight nodecount (rowsIn bytes)) j ≡ true) × (before ≡ reqidBefore (rowsIn bytes) j) × (length seen ≡ 256) × ((k : ℕ) → k < 256 → getD seen k false ≡ anyTo (isFrom (rowsIn bytes) k) j)
+Inv-loop bytes nodecount count seen₀ before₀ j₀ seen before j = (j ≤ count) × (length bytes ≡ 592) × (count ≤ 127) × (allTo (rowRight nodecount (rowsIn bytes)) j ≡ true) × (before ≡ reqidBefore (rowsIn bytes) j) × (length seen ≡ 256) × ((k : ℕ) → k < 256 → getD seen k false ≡ anyTo (isFrom (rowsIn bytes) k) j)
 
 abbrev μ-loop : tie.MeasureT-loop
 μ-loop bytes nodecount count seen₀ before₀ j₀ seen before j = count - j

@@ -11,7 +11,7 @@ use Rattle.plan_bytes.proofs.unpacking.nodes_in.Statement.{statement}
 use Rattle.plan_bytes.proofs.unpacking.nodes_in.Tie as tie
 
 abbrev Inv-loop : tie.InvT-loop
-Inv-loop bytes nodes₀ k₀ nodes k = (k ≤ 16) × (length bytes ≡ 591) × (length nodes ≡ 16) × ((i : ℕ) → i < k → getD nodes i zeroEntry ≡ recordEntry bytes i)
+Inv-loop bytes nodes₀ k₀ nodes k = (k ≤ 16) × (length bytes ≡ 592) × (length nodes ≡ 16) × ((i : ℕ) → i < k → getD nodes i zeroEntry ≡ recordEntry bytes i)
 
 abbrev μ-loop : tie.MeasureT-loop
 μ-loop bytes nodes₀ k₀ nodes k = 16 - k

@@ -15,6 +15,9 @@ rows-in-requires c κs = search needs
 revision-in-requires : tie.Need-revision-in-requires
 revision-in-requires c κs = search needs
 
+profile-in-requires : tie.Need-profile-in-requires
+profile-in-requires c κs = search needs
+
 node-count-in-requires : tie.Need-node-count-in-requires
 node-count-in-requires c κs = search needs
 
@@ -26,4 +29,4 @@ returns c = cc
 
 pub plan-in-spec : {M : Type 1} → statement M
 plan-in-spec =
-    tie.close (tie.spec times-in-requires nodes-in-requires rows-in-requires revision-in-requires node-count-in-requires row-count-in-requires returns)
+    tie.close (tie.spec times-in-requires nodes-in-requires rows-in-requires revision-in-requires profile-in-requires node-count-in-requires row-count-in-requires returns)

@@ -11,7 +11,7 @@ use Rattle.plan_bytes.proofs.unpacking.rows_in.Statement.{statement}
 use Rattle.plan_bytes.proofs.unpacking.rows_in.Tie as tie
 
 abbrev Inv-loop : tie.InvT-loop
-Inv-loop bytes rows₀ j₀ rows j = (j ≤ 127) × (length bytes ≡ 591) × (length rows ≡ 127) × ((i : ℕ) → i < j → getD rows i zeroRow ≡ recordRow bytes i)
+Inv-loop bytes rows₀ j₀ rows j = (j ≤ 127) × (length bytes ≡ 592) × (length rows ≡ 127) × ((i : ℕ) → i < j → getD rows i zeroRow ≡ recordRow bytes i)
 
 abbrev μ-loop : tie.MeasureT-loop
 μ-loop bytes rows₀ j₀ rows j = 127 - j

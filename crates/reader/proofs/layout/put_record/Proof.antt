@@ -1,4 +1,5 @@
 -- Run by run. Assumes nothing.
+use lib.ListN.{length-set}
 use Rattle.plan_bytes.proofs.RecordRuns.{record-put}
 use Rattle.reader.specs.Layout.{planOf}
 use borrow.Author.Needs.{needs}
@@ -26,12 +27,18 @@ cast-put-rows c = search needs
 put-rows-requires : tie.Need-put-rows-requires
 put-rows-requires c κs = search needs
 
+byte-at-requires : tie.Need-byte-at-requires
+byte-at-requires c κs = search needs
+
+slice-write-buffer : tie.Need-slice-write-buffer
+slice-write-buffer c = search needs
+
 same-length : tie.Need-same-length
-same-length c = search needs
+same-length c = simp length-set (search needs)
 
 returns : tie.Need-returns
 unfolding planOf
-returns c = record-put (planOf (c .before .before .before .before .before .before .before .before .before .before .before .before .before .before .before .before .before .args .s .now)) _ _ _ _ _ (search needs) (c .before .before .before .before .before .before .before .before .before .before .before .before .before .before .head-of .ensures) (c .before .before .before .before .before .before .before .before .before .before .before .put .ensures) (c .before .before .before .before .before .before .before .put-entries .ensures) (rw (c .before .before .before .before .rowcount-of .ensures) at (c .before .before .put-rows .ensures))
+returns c = record-put (planOf (c .before .before .before .before .before .before .before .before .before .before .before .before .before .before .before .before .before .before .args .s .now)) _ _ _ _ _ _ (search needs) (c .before .before .before .before .before .before .before .before .before .before .before .before .before .before .before .head-of .ensures) (c .before .before .before .before .before .before .before .before .before .before .before .before .put .ensures) (c .before .before .before .before .before .before .before .before .put-entries .ensures) (rw (c .before .before .before .before .before .rowcount-of .ensures) at (c .before .before .before .put-rows .ensures)) (c .byte-at .ensures)
 
 pub put-record-spec : {M : Type 1} → statement M
 put-record-spec =
@@ -44,5 +51,7 @@ put-record-spec =
     rowcount-of-requires
     cast-put-rows
     put-rows-requires
+    byte-at-requires
+    slice-write-buffer
     same-length
     returns)

@@ -27,13 +27,13 @@ returns-2 : tie.Need-returns-2
 returns-2 c =
     let p = planOf (c .before .before .before .before .before .before .args .s .now) in
     let is : c .before .before .before .before .before .before .args .refusal ≡ planRefusal p = search needs in
-    c .with-wrong-count .ensures ∙ ap (λ k. pick (inRange 4 6 k) k 7) is ∙ sym (wrong-count _ p (sym (c .before .before .before .before .revisions-same .ensures) ∙ not-false _ (c .before .before .before .if1 .left)) (sym (c .before .before .counts-right .ensures) ∙ not-true _ (c .before .if2 .taken)))
+    c .with-wrong-count .ensures ∙ ap (λ k. pick (inRange 4 6 k) k 7) is ∙ sym (wrong-count _ p (search needs) (sym (c .before .before .before .before .revisions-same .ensures) ∙ not-false _ (c .before .before .before .if1 .left)) (sym (c .before .before .counts-right .ensures) ∙ not-true _ (c .before .if2 .taken)))
 
 returns-3 : tie.Need-returns-3
 returns-3 c =
     let p = planOf (c .before .before .before .before .before .before .args .s .now) in
     let is : c .before .before .before .before .before .before .args .refusal ≡ planRefusal p = search needs in
-    is ∙ sym (plan-refused _ p (sym (c .before .before .before .before .revisions-same .ensures) ∙ not-false _ (c .before .before .before .if1 .left)) (sym (c .before .before .counts-right .ensures) ∙ not-false _ (c .before .if2 .left)) (λ z. c .if3 .taken (is ∙ z)))
+    is ∙ sym (plan-refused _ p (search needs) (sym (c .before .before .before .before .revisions-same .ensures) ∙ not-false _ (c .before .before .before .if1 .left)) (sym (c .before .before .counts-right .ensures) ∙ not-false _ (c .before .if2 .left)) (λ z. c .if3 .taken (is ∙ z)))
 
 filler-right-requires : tie.Need-filler-right-requires
 filler-right-requires c κs = search needs
@@ -43,14 +43,14 @@ returns-4 c =
     let p = planOf (c .before .before .before .before .before .before .before .before .args .s .now) in
     let is : c .before .before .before .before .before .before .before .before .args .refusal ≡ planRefusal p = search needs in
     let z : c .before .before .before .before .before .before .before .before .args .refusal ≡ 0 = search needs in
-    ap (λ b. firstBroken 9 (b ∷ [])) (sym (sym (c .before .filler-right .ensures) ∙ not-true _ (c .if4 .taken))) ∙ sym (filler-last _ p (sym (c .before .before .before .before .before .before .revisions-same .ensures) ∙ not-false _ (c .before .before .before .before .before .if1 .left)) (sym (c .before .before .before .before .counts-right .ensures) ∙ not-false _ (c .before .before .before .if2 .left)) (sym is ∙ z))
+    ap (λ b. firstBroken 9 (b ∷ [])) (sym (sym (c .before .filler-right .ensures) ∙ not-true _ (c .if4 .taken))) ∙ sym (filler-last _ p (search needs) (sym (c .before .before .before .before .before .before .revisions-same .ensures) ∙ not-false _ (c .before .before .before .before .before .if1 .left)) (sym (c .before .before .before .before .counts-right .ensures) ∙ not-false _ (c .before .before .before .if2 .left)) (sym is ∙ z))
 
 returns-5 : tie.Need-returns-5
 returns-5 c =
     let p = planOf (c .before .before .before .before .before .before .before .before .args .s .now) in
     let is : c .before .before .before .before .before .before .before .before .args .refusal ≡ planRefusal p = search needs in
     let z : c .before .before .before .before .before .before .before .before .args .refusal ≡ 0 = search needs in
-    ap (λ b. firstBroken 9 (b ∷ [])) (sym (sym (c .before .filler-right .ensures) ∙ not-false _ (c .if4 .left))) ∙ sym (filler-last _ p (sym (c .before .before .before .before .before .before .revisions-same .ensures) ∙ not-false _ (c .before .before .before .before .before .if1 .left)) (sym (c .before .before .before .before .counts-right .ensures) ∙ not-false _ (c .before .before .before .if2 .left)) (sym is ∙ z))
+    ap (λ b. firstBroken 9 (b ∷ [])) (sym (sym (c .before .filler-right .ensures) ∙ not-false _ (c .if4 .left))) ∙ sym (filler-last _ p (search needs) (sym (c .before .before .before .before .before .before .revisions-same .ensures) ∙ not-false _ (c .before .before .before .before .before .if1 .left)) (sym (c .before .before .before .before .counts-right .ensures) ∙ not-false _ (c .before .before .before .if2 .left)) (sym is ∙ z))
 
 pub content-refusal-spec : {M : Type 1} → statement M
 content-refusal-spec =

@@ -22,11 +22,8 @@ cast-are-zero c = search needs
 sub-are-zero : tie.Need-sub-are-zero
 sub-are-zero c = search needs
 
-are-zero-requires-3 : tie.Need-are-zero-requires-3
-are-zero-requires-3 c κs = search needs
-
 returns : tie.Need-returns
-returns c = plan-runs _ _ _ _ _ (rw (c .before .before .before .before .byte-at .ensures) at (c .before .before .before .filler-start .ensures)) (c .before .before .are-zero .ensures) (c .before .are-zero2 .ensures) (c .are-zero3 .ensures)
+returns c = plan-runs _ _ _ _ (rw (c .before .before .before .byte-at .ensures) at (c .before .before .filler-start .ensures)) (c .before .are-zero .ensures) (c .are-zero2 .ensures)
 
 pub plan-filler-spec : {M : Type 1} → statement M
 plan-filler-spec =
@@ -35,8 +32,7 @@ plan-filler-spec =
     byte-at-requires
     filler-start-requires
     are-zero-requires
-    are-zero-requires-2
     cast-are-zero
     sub-are-zero
-    are-zero-requires-3
+    are-zero-requires-2
     returns)
