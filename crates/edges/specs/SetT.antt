@@ -17,6 +17,7 @@ abbrev pub planWith : ℕ → Plan
 planWith sleep =
     record {
       revision = 7;
+      profile = 0;
       nodecount = 1;
       times = record { window = 10; stop = 2; sleep = sleep; quiet = 4; recovery = 5; space = 6; start = 1 };
       nodes = record { address = 0x41; class = 1; method = 1; reserved = 0 } ∷ replicate 15 zeroEntry;

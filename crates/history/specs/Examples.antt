@@ -16,6 +16,7 @@ abbrev pub planWith : Times → Plan
 planWith times =
     record {
       revision = 1;
+      profile = 0;
       nodecount = 2;
       times = times;
       nodes = record { address = 1; class = 1; method = 0; reserved = 0 } ∷ record { address = 2; class = 1; method = 0; reserved = 0 } ∷ replicate 14 zeroEntry;

@@ -69,7 +69,7 @@ module _ (p : Plan) where
       put-whole 1536 (dataByte p) d z (block-put 2 1024 1536 d y z (omega arith) refl refl (block-put 1 512 1024 d x y (omega arith) refl refl h j) k) l
 
 -- the same from the bytes of a packed record
-module _ (s : List ℕ) (size : length s ≡ 591) where
+module _ (s : List ℕ) (size : length s ≡ 592) where
   pub plan-put-from : (n : ℕ) (d x y z head : List ℕ) → n ≡ recordOf s .nodecount → n ≤ 16 → 512 ≤ length d → head ≡ planHead (recordOf s) → x ≡ sets d 0 head
       → y ≡ sets x 32 (take (19 + 4 * n - 19) (drop 19 s)) → z ≡ sets y (32 + 4 * n) (replicate (480 - 4 * n) 0) → Put 0 512 (dataByte (recordOf s)) d z
   plan-put-from n d x y z head is few long e h1 h2 h3 =

@@ -79,18 +79,14 @@ module _ (p : Plan) (few-nodes : p .nodecount ≤ 16) (some : 1 ≤ p .rowcount)
 
   -- filler
 
-  head5 : (q : Plan) → byte (writeSet q) 5 ≡ 0
-  unfolding planHead
-  head5 q = head-byte q 5 (omega arith)
-
-  -- bytes 5 and 20 to 31 of the plan block
+  -- bytes 20 to 31 of the plan block
   head-filler : (i : ℕ) → i < 12 → byte (writeSet p) (20 + i) ≡ 0
   unfolding planHead
   head-filler i h = head-byte p (20 + i) (omega arith) ∙ getD-append-add (front p) (replicate 12 0) i 0 ∙ getD-replicate 12 i 0 0 h
     where
       front : Plan → List ℕ
       front q =
-          0x50 ∷ 1 ∷ twoBytes (q .revision) ++ q .nodecount ∷ 0 ∷ twoBytes (q .times .window) ++ twoBytes (q .times .stop) ++ twoBytes (q .times .sleep)
+          0x50 ∷ 1 ∷ twoBytes (q .revision) ++ q .nodecount ∷ q .profile ∷ twoBytes (q .times .window) ++ twoBytes (q .times .stop) ++ twoBytes (q .times .sleep)
           ++ twoBytes (q .times .quiet) ++ twoBytes (q .times .recovery) ++ twoBytes (q .times .space) ++ twoBytes (q .times .start)
 
   -- a byte that has no name is 0
@@ -98,21 +94,16 @@ module _ (p : Plan) (few-nodes : p .nodecount ≤ 16) (some : 1 ≤ p .rowcount)
   zero-byte s o e b = rw (eq-eqb (byte s o) 0 e) (or-true b)
 
   plan-named : (o : ℕ) → o < 512 → (planNamed (p .nodecount) o || eqb (byte (writeSet p) o) 0) ≡ true
-  plan-named o h = go (decLt o 5) (decLt o 6) (decLt o 20) (decLt o 32) (decLt o (32 + 4 * p .nodecount)) (decLt o 510)
+  plan-named o h = go (decLt o 20) (decLt o 32) (decLt o (32 + 4 * p .nodecount)) (decLt o 510)
     where
-      five : o ≡ 5 → byte (writeSet p) o ≡ 0
-      five e = rw e (head5 p)
-
-      go : Dec (o < 5) → Dec (o < 6) → Dec (o < 20) → Dec (o < 32) → Dec (o < 32 + 4 * p .nodecount) → Dec (o < 510) → (planNamed (p .nodecount) o || eqb (byte (writeSet p) o) 0) ≡ true
-      go (yes a) x y z u v = rw (lt-ltb o 5 a)
-      go (no a) (yes b) y z u v = zero-byte (writeSet p) o (five (omega arith)) (planNamed (p .nodecount) o)
-      go (no a) (no b) (yes c) z u v = rw (le-ltb o 5 (omega arith), le-leb 6 o (omega arith), lt-ltb o 20 c)
-      go (no a) (no b) (no c) (yes d) u v =
+      go : Dec (o < 20) → Dec (o < 32) → Dec (o < 32 + 4 * p .nodecount) → Dec (o < 510) → (planNamed (p .nodecount) o || eqb (byte (writeSet p) o) 0) ≡ true
+      go (yes a) b c d = rw (lt-ltb o 20 a)
+      go (no a) (yes b) c d =
           let e : o ≡ 20 + (o - 20) = omega arith in
           zero-byte (writeSet p) o (ap (byte (writeSet p)) e ∙ head-filler (o - 20) (omega arith)) (planNamed (p .nodecount) o)
-      go (no a) (no b) (no c) (no d) (yes f) v = rw (le-ltb o 5 (omega arith), le-leb 6 o (omega arith), le-ltb o 20 (omega arith), le-leb 32 o (omega arith), lt-ltb o (32 + 4 * p .nodecount) f)
-      go (no a) (no b) (no c) (no d) (no f) (yes g) = zero-byte (writeSet p) o (plan-filler p o (omega arith) g) (planNamed (p .nodecount) o)
-      go (no a) (no b) (no c) (no d) (no f) (no g) = rw (le-leb 510 o (omega arith), or-true)
+      go (no a) (no b) (yes c) d = rw (le-ltb o 20 (omega arith), le-leb 32 o (omega arith), lt-ltb o (32 + 4 * p .nodecount) c)
+      go (no a) (no b) (no c) (yes d) = zero-byte (writeSet p) o (plan-filler p o (omega arith) d) (planNamed (p .nodecount) o)
+      go (no a) (no b) (no c) (no d) = rw (le-leb 510 o (omega arith), or-true)
 
   message-named : (b o : ℕ) → 1 ≤ b → b < blockCount (p .rowcount) → o < 512 → (messageNamed (rowsIn (p .rowcount) b) o || eqb (byte (writeSet p) (512 * b + o)) 0) ≡ true
   unfolding messageHead

@@ -28,6 +28,10 @@ module _ (p : Plan) (few-nodes : p .nodecount ≤ 16) (few-rows : p .rowcount �
   unfolding planHead
   nodecount-back = head-byte p 4 (omega arith)
 
+  pub profile-back : byte (writeSet p) 5 ≡ p .profile
+  unfolding planHead
+  profile-back = head-byte p 5 (omega arith)
+
   pub times-back : timesFrom (writeSet p) 6 ≡ p .times
   unfolding timesFrom planHead
   times-back =
@@ -118,4 +122,4 @@ module _ (p : Plan) (few-nodes : p .nodecount ≤ 16) (few-rows : p .rowcount �
 
   pub plan-back : planOf (writeSet p) ≡ unusedZero p
   unfolding planOf unusedZero
-  plan-back = λ i. record { revision = revision-back i; nodecount = nodecount-back i; times = times-back i; nodes = nodes-back i; rowcount = rowcount-back i; rows = rows-back i }
+  plan-back = λ i. record { revision = revision-back i; profile = profile-back i; nodecount = nodecount-back i; times = times-back i; nodes = nodes-back i; rowcount = rowcount-back i; rows = rows-back i }

@@ -33,6 +33,7 @@ read-of-written p e =
       length-kept p n k m,
       checks-kept p n k m,
       types-kept p n k m,
+      u .profile,
       revisions-kept p n k m,
       u .revision,
       u .times,

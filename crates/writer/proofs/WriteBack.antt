@@ -127,7 +127,6 @@ module _ (s : List ℕ) (r : AcceptedSet s) where
           m .1,
           high-byte 2,
           low-byte 2,
-          zero-at 5 (omega arith) refl,
           high-byte 6,
           low-byte 6,
           high-byte 8,
@@ -168,7 +167,7 @@ module _ (s : List ℕ) (r : AcceptedSet s) where
 
     no-plan-name : (o : ℕ) → 32 + 4 * byte s 4 ≤ o → o < 510 → named s o ≡ false
     unfolding named
-    no-plan-name o a b = rw (lt-ltb o 512 (omega arith), le-ltb o 5 (omega arith), le-leb 6 o (omega arith), le-ltb o 20 (omega arith), le-leb 32 o (omega arith), le-ltb o (32 + 4 * byte s 4) a, lt-leb 510 o b)
+    no-plan-name o a b = rw (lt-ltb o 512 (omega arith), le-ltb o 20 (omega arith), le-leb 32 o (omega arith), le-ltb o (32 + 4 * byte s 4) a, lt-leb 510 o b)
 
     plan-data : (o : ℕ) → o < 510 → planByte (planOf s) o ≡ byte s o
     unfolding planByte planOf

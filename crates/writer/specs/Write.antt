@@ -14,10 +14,10 @@ use Rattle.plan.specs.Rules.{planRefusal}
 use Rattle.plan_bytes.specs.Entries.{timesBytes, entryBytes, rowBytes}
 use Rattle.writer.specs.declared.WriteAnswer.{WriteAnswer}
 
--- the first 32 bytes of the plan block: "0 = 50 hex; 1 = 1; 2-3 revision ..; 4 = N ..; 6-19 seven times"
+-- the first 32 bytes of the plan block: "0 = 50 hex; 1 = 1; 2-3 revision ..; 4 = N ..; 6-19 seven times", and "byte 5" the profile
 unfoldable pub planHead : Plan → List ℕ
 planHead p =
-    0x50 ∷ 1 ∷ twoBytes (p .revision) ++ p .nodecount ∷ 0 ∷ timesBytes (p .times) ++ replicate 12 0
+    0x50 ∷ 1 ∷ twoBytes (p .revision) ++ p .nodecount ∷ p .profile ∷ timesBytes (p .times) ++ replicate 12 0
 
 -- byte o of the plan block, its check left 0: "From 32, N entries of 4 bytes"
 unfoldable pub planByte : Plan → ℕ → ℕ
@@ -62,7 +62,7 @@ withChecks rowcount s =
 unfoldable pub writeSet : Plan → List ℕ
 writeSet p = withChecks (p .rowcount) (tab (setLength (p .rowcount)) (dataByte p))
 
--- "The writer checks 4 to 8, then 10", the buffer having so many bytes
+-- "The writer checks 4 to 8, then 10", and 3 of the profile "before 4", the buffer having so many bytes
 unfoldable pub writeRefusal : Plan → ℕ → ℕ
 writeRefusal p room = pick (eqb (planRefusal p) 0) (pick (ltb room (setLength (p .rowcount))) 10 0) (planRefusal p)
 

@@ -24,13 +24,14 @@ fn plan_head(plan: &[u8]) -> [u8; 32]
     let t = plan_bytes::times_of(plan);
     let v = plan_bytes::revision_of(plan);
     let n = plan_bytes::node_count(plan);
+    let profile = plan_bytes::profile_of(plan);
     [
         0x50,
         1,
         (v / 256) as u8,
         (v % 256) as u8,
         n,
-        0,
+        profile,
         (t.window / 256) as u8,
         (t.window % 256) as u8,
         (t.stop / 256) as u8,

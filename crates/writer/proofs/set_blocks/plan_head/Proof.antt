@@ -13,57 +13,60 @@ revision-of-requires c κs = search needs
 node-count-requires : tie.Need-node-count-requires
 node-count-requires c κs = search needs
 
-cast-t6 : tie.Need-cast-t6
-cast-t6 c = search needs
+profile-of-requires : tie.Need-profile-of-requires
+profile-of-requires c κs = search needs
 
-cast-t8 : tie.Need-cast-t8
-cast-t8 c = search needs
+cast-t7 : tie.Need-cast-t7
+cast-t7 c = search needs
 
-cast-t10 : tie.Need-cast-t10
-cast-t10 c = search needs
+cast-t9 : tie.Need-cast-t9
+cast-t9 c = search needs
 
-cast-t12 : tie.Need-cast-t12
-cast-t12 c = search needs
+cast-t11 : tie.Need-cast-t11
+cast-t11 c = search needs
 
-cast-t14 : tie.Need-cast-t14
-cast-t14 c = search needs
+cast-t13 : tie.Need-cast-t13
+cast-t13 c = search needs
 
-cast-t16 : tie.Need-cast-t16
-cast-t16 c = search needs
+cast-t15 : tie.Need-cast-t15
+cast-t15 c = search needs
 
-cast-t18 : tie.Need-cast-t18
-cast-t18 c = search needs
+cast-t17 : tie.Need-cast-t17
+cast-t17 c = search needs
 
-cast-t20 : tie.Need-cast-t20
-cast-t20 c = search needs
+cast-t19 : tie.Need-cast-t19
+cast-t19 c = search needs
 
-cast-t22 : tie.Need-cast-t22
-cast-t22 c = search needs
+cast-t21 : tie.Need-cast-t21
+cast-t21 c = search needs
 
-cast-t24 : tie.Need-cast-t24
-cast-t24 c = search needs
+cast-t23 : tie.Need-cast-t23
+cast-t23 c = search needs
 
-cast-t26 : tie.Need-cast-t26
-cast-t26 c = search needs
+cast-t25 : tie.Need-cast-t25
+cast-t25 c = search needs
 
-cast-t28 : tie.Need-cast-t28
-cast-t28 c = search needs
+cast-t27 : tie.Need-cast-t27
+cast-t27 c = search needs
 
-cast-t30 : tie.Need-cast-t30
-cast-t30 c = search needs
+cast-t29 : tie.Need-cast-t29
+cast-t29 c = search needs
 
-cast-t32 : tie.Need-cast-t32
-cast-t32 c = search needs
+cast-t31 : tie.Need-cast-t31
+cast-t31 c = search needs
 
-cast-t34 : tie.Need-cast-t34
-cast-t34 c = search needs
+cast-t33 : tie.Need-cast-t33
+cast-t33 c = search needs
 
-cast-t36 : tie.Need-cast-t36
-cast-t36 c = search needs
+cast-t35 : tie.Need-cast-t35
+cast-t35 c = search needs
+
+cast-t37 : tie.Need-cast-t37
+cast-t37 c = search needs
 
 returns : tie.Need-returns
 unfolding planHead
-returns c = rw (← c .before .before .before .before .before .before .before .before .before .before .before .before .before .before .before .before .times-of .ensures, ← c .before .before .before .before .before .before .before .before .before .before .before .before .before .before .before .revision-of .ensures, ← c .before .before .before .before .before .before .before .before .before .before .before .before .before .before .node-count .ensures)
+returns c = rw (← c .before .before .before .before .before .before .before .before .before .before .before .before .before .before .before .before .before .times-of .ensures, ← c .before .before .before .before .before .before .before .before .before .before .before .before .before .before .before .before .revision-of .ensures, ← c .before .before .before .before .before .before .before .before .before .before .before .before .before .before .before .node-count .ensures, ← c .before .before .before .before .before .before .before .before .before .before .before .before .before .before .profile-of .ensures)
 
 pub plan-head-spec : {M : Type 1} → statement M
 plan-head-spec =
@@ -72,20 +75,21 @@ plan-head-spec =
     times-of-requires
     revision-of-requires
     node-count-requires
-    cast-t6
-    cast-t8
-    cast-t10
-    cast-t12
-    cast-t14
-    cast-t16
-    cast-t18
-    cast-t20
-    cast-t22
-    cast-t24
-    cast-t26
-    cast-t28
-    cast-t30
-    cast-t32
-    cast-t34
-    cast-t36
+    profile-of-requires
+    cast-t7
+    cast-t9
+    cast-t11
+    cast-t13
+    cast-t15
+    cast-t17
+    cast-t19
+    cast-t21
+    cast-t23
+    cast-t25
+    cast-t27
+    cast-t29
+    cast-t31
+    cast-t33
+    cast-t35
+    cast-t37
     returns)
