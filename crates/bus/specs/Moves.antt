@@ -30,7 +30,7 @@ actBy p w bus (Act.SendResult sent) = sendResultMove (nodesUsed (p .nodecount)) 
 abbrev pub worldAct : Plan → World → Move → Moved
 worldAct p w m = actBy p w (m .bus) (m .act)
 
--- "plan 4 to 8 first, then 11"
+-- "plan 4 to 8 first, then 11", and 3 "before 4"
 abbrev pub worldStep : Plan → World → Move → Moved
 worldStep p w m =
     pick (eqb (planRefusal p) 0)

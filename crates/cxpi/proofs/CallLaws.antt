@@ -62,11 +62,11 @@ pub no-node-event : NodeStep.eventRight NodeEvents.noEvent ≡ false
 no-node-event = refl
 
 -- "A refused read returns .. an all-zero record": zero bytes
-pub refused-read : (set : List ℕ) → (setRefusal set ≡ 0 → ⊥) → recordBytes (readSet set .plan) ≡ replicate 591 0
+pub refused-read : (set : List ℕ) → (setRefusal set ≡ 0 → ⊥) → recordBytes (readSet set .plan) ≡ replicate 592 0
 unfolding readSet
 refused-read set n = go (eqb (setRefusal set) 0) refl
   where
-    go : (b : Bool) → eqb (setRefusal set) 0 ≡ b → recordBytes (readSet set .plan) ≡ replicate 591 0
+    go : (b : Bool) → eqb (setRefusal set) 0 ≡ b → recordBytes (readSet set .plan) ≡ replicate 592 0
     go true e = absurd (n (eqb-true _ _ e))
     go false e = rw e zero-bytes
 

@@ -10,6 +10,7 @@ use native.Mathlib.Omega.{arith}
 use borrow.Author.Tests.{ne-eqb, le-ltb, eqb-false}
 use Rattle.folds.specs.FirstBroken.{firstBroken}
 use Rattle.plan.specs.declared.Plan.{Plan}
+use Rattle.plan.specs.Profile.{profileRight}
 use Rattle.plan.specs.Rules.{revisionRight, timesRight, nodesRight, rowsRight, allPublish, planRefusal}
 use Rattle.plan_bytes.specs.Record.{recordOf}
 use Rattle.master.specs.declared.Master.{Master}
@@ -39,17 +40,18 @@ over : (l v : List ℕ) → length v ≡ length l → sets l 0 v ≡ v
 over l v n = sets-eq v l 0 (omega arith) ∙ ap (λ r. v ++ r) (drop-of-length-le l {i = 0 + length v} (omega arith)) ∙ append-nil v
 
 -- the plan's numbers are none that changes a state
-plan-number : (a b c d e : Bool) → firstBroken 4 (a ∷ b ∷ c ∷ d ∷ e ∷ []) ≤ 8
-plan-number false b c d e = omega arith
-plan-number true false c d e = omega arith
-plan-number true true false d e = omega arith
-plan-number true true true false e = omega arith
-plan-number true true true true false = omega arith
-plan-number true true true true true = omega arith
+plan-number : (a b c d e f : Bool) → firstBroken 3 (a ∷ b ∷ c ∷ d ∷ e ∷ f ∷ []) ≤ 8
+plan-number false b c d e f = omega arith
+plan-number true false c d e f = omega arith
+plan-number true true false d e f = omega arith
+plan-number true true true false e f = omega arith
+plan-number true true true true false f = omega arith
+plan-number true true true true true false = omega arith
+plan-number true true true true true true = omega arith
 
 at-most-8 : (p : Plan) → planRefusal p ≤ 8
 unfolding planRefusal
-at-most-8 p = plan-number (revisionRight p) (timesRight (p .times)) (nodesRight p) (rowsRight p) (allPublish p)
+at-most-8 p = plan-number (profileRight (p .profile)) (revisionRight p) (timesRight (p .times)) (nodesRight p) (rowsRight p) (allPublish p)
 
 other-number : (x : ℕ) → (x ≡ 0 → ⊥) → x ≤ 8 → changesState x ≡ false
 other-number x n h = rw (ne-eqb x 0 n, ne-eqb x 13 (λ z. omega arith), ne-eqb x 14 (λ z. omega arith))

@@ -23,7 +23,7 @@ masterRoom room = pick (ltb room masterLength) 10 0
 abbrev pub masterOn : List ℕ → List ℕ
 masterOn state = pick (ltb (length state) masterLength) state (sets state 0 (masterBytes powerOn))
 
--- the order of a step's numbers: the plan's, 4 to 8; then 10 for a reply buffer of so many bytes that is too short; then the step's own,
+-- the order of a step's numbers: the plan's, 3 to 8; then 10 for a reply buffer of so many bytes that is too short; then the step's own,
 -- to which bytes that are no state give 11 and bytes that are no event 15
 abbrev pub masterReply : List ℕ → List ℕ → List ℕ → ℕ → Reply
 masterReply plan state event room =

@@ -13,7 +13,7 @@ use Rattle.master_events.specs.declared.ReplyRecord.{ReplyRecord}
 use Rattle.master_batch.specs.Batch.{masterAfter, tooShort}
 use Rattle.master_bytes.specs.States.{masterBytes, masterOf}
 
--- the number that plan or state give every event: "plan 4 to 8 first, then 11"
+-- the number that plan or state give every event: "plan 4 to 8 first, then 11", and 3 "before 4"
 unfoldable pub standing : Plan → Master → ℕ
 standing p m = pick (eqb (planRefusal p) 0) (pick (inRange (p .nodecount) (p .times) m) 0 11) (planRefusal p)
 

@@ -63,7 +63,7 @@ act p m e = actWith (p .nodecount) (p .times) (rowAsked p e) m e
 abbrev pub stepUnder : Plan → Master → Event → Reply
 stepUnder p m e = stepWith (p .nodecount) (p .times) (rowAsked p e) m e
 
--- "plan 4 to 8 first", where the plan's number is known
+-- "plan 4 to 8 first", and 3 "before 4", where the plan's number is known
 abbrev pub judgedStep : ℕ → Plan → Master → Event → Reply
 judgedStep refusal p m e = pick (eqb refusal 0) (stepUnder p m e) (refuse m refusal)
 

@@ -54,6 +54,6 @@ explainBy nodecount State.Sleep m = refused 16
 abbrev pub explainWith : ℕ → Times → Master → Explained
 explainWith nodecount t m = pick (inRange nodecount t m) (explainBy nodecount (m .state) m) (refused 11)
 
--- "plan 4 to 8 first"
+-- "plan 4 to 8 first", and 3 "before 4"
 abbrev pub explain : Plan → Master → Explained
 explain p m = pick (eqb (planRefusal p) 0) (explainWith (p .nodecount) (p .times) m) (refused (planRefusal p))

@@ -120,7 +120,7 @@ pub fn explain_with(nodecount: u8, times: Times, master: Master) -> Explained
     }
 }
 
-// 4 to 8 for a refused plan, 11 for a master out of range, 16 outside Normal.
+// 3 to 8 for a refused plan, 11 for a master out of range, 16 outside Normal.
 pub fn explain(plan: Plan, master: Master) -> Explained
     ensures { λ r. ⌜ r ≡ explain plan master ⌝ }
 {

@@ -66,6 +66,6 @@ act p me n e = actWith (p .times) me (isPolled p me) (rowAsked p e) n e
 abbrev pub stepUnder : Plan → ℕ → Node → Event → Reply
 stepUnder p me n e = stepWith (p .nodecount) (p .times) me (isPolled p me) (rowAsked p e) n e
 
--- "plan 4 to 8 first"
+-- "plan 4 to 8 first", and 3 "before 4"
 abbrev pub nodeStep : Plan → ℕ → Node → Event → Reply
 nodeStep p me n e = pick (eqb (planRefusal p) 0) (stepUnder p me n e) (refuse n (planRefusal p))

@@ -15,7 +15,7 @@ use Rattle.runs.specs.declared.Ran.{Ran}
 use Rattle.runs.specs.Encoding.{moveOf, isMove}
 use Rattle.runs.specs.Records.{listRight, movesOf}
 
--- "plan 4 to 8 first, then 11, 15"
+-- "plan 4 to 8 first, then 11, 15", and 3 "before 4"
 abbrev pub stepOf : Plan → World → List ℕ → Moved
 stepOf p w s =
     pick (eqb (planRefusal p) 0)
@@ -42,6 +42,6 @@ ranTo refusal world = record { refusal = refusal; world = world }
 abbrev pub ranOver : Plan → List ℕ → Ran
 ranOver p s = pick (listRight s) (ranTo 0 (run p (movesOf s) .world)) (ranTo 15 powerOn)
 
--- "plan 4 to 8 first"
+-- "plan 4 to 8 first", and 3 "before 4"
 abbrev pub runOf : Plan → List ℕ → Ran
 runOf p s = pick (eqb (planRefusal p) 0) (ranOver p s) (ranTo (planRefusal p) powerOn)

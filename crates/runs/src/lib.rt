@@ -41,7 +41,7 @@ pub struct Ran {
     pub world: World,
 }
 
-// One move of a run. 4 to 8 for a refused plan, 11 for machines out of range, 15 for bytes that are no move.
+// One move of a run. 3 to 8 for a refused plan, 11 for machines out of range, 15 for bytes that are no move.
 pub fn step(plan: Plan, world: World, bytes: &[u8]) -> Moved
     ensures { λ r. ⌜ r ≡ stepOf plan world (now (bytes .entry)) ⌝ }
 {
@@ -90,7 +90,7 @@ fn run_all(plan: Plan, moves: &[u8]) -> Ran
     Ran { refusal: 0, world }
 }
 
-// The world after a list of moves; demand 3 holds of it, and the reason told of its master is the one that the list shows. 4 to 8 for a refused plan, 15 for bytes that are no list of moves.
+// The world after a list of moves; demand 3 holds of it, and the reason told of its master is the one that the list shows. 3 to 8 for a refused plan, 15 for bytes that are no list of moves.
 pub fn run(plan: Plan, moves: &[u8]) -> Ran
     ensures { λ r. ⌜ (r ≡ runOf plan (now (moves .entry))) × (r .refusal ≡ 0 → Demand3 plan (movesOf (now (moves .entry))) × ReasonShown plan (movesOf (now (moves .entry)))) ⌝ }
 {
