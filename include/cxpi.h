@@ -12,11 +12,11 @@
  * Order. A call returns the first of its numbers that applies:
  *
  *   cxpi_read             1 to 9 of the set, each over all blocks; 10 for the plan buffer
- *   cxpi_write            4 to 8 of the plan record; 10 for the set buffer
+ *   cxpi_write            3 to 8 of the plan record; 10 for the set buffer
  *   cxpi_*_power_on       10 for the state buffer
- *   cxpi_*_step           4 to 8 of the plan record; 10 for the reply buffer; 11; 15; 16; the rest by number: 12, 13, 14, 17 to 21
+ *   cxpi_*_step           3 to 8 of the plan record; 10 for the reply buffer; 11; 15; 16; the rest by number: 12, 13, 14, 17 to 21
  *   cxpi_master_batch     22; the numbers of a step stand in the reply records, in a step's order
- *   cxpi_master_why       4 to 8 of the plan record; 10 for the reply buffer; 11; 16
+ *   cxpi_master_why       3 to 8 of the plan record; 10 for the reply buffer; 11; 16
  *   cxpi_node_configure   11 for another length of the identity; 23; 24; 10 for the answer buffer
  *
  * A plan record of another length than CXPI_PLAN_LENGTH is taken for the all-zero record, which is 4. A state of another length is 11,
@@ -48,7 +48,7 @@ extern "C" {
 #endif
 
 /* The version of calls and layouts, which each change of either raises. A host compares the archive's with its header's at start. */
-#define CXPI_VERSION 4
+#define CXPI_VERSION 5
 
 uint32_t cxpi_version(void);
 
@@ -56,7 +56,7 @@ uint32_t cxpi_version(void);
 #define CXPI_DONE 0
 #define CXPI_WRONG_SIZE 1     /* the set's length is not 1,024 or 1,536 */
 #define CXPI_WRONG_CHECK 2    /* a block's check differs */
-#define CXPI_WRONG_BLOCK 3    /* wrong byte 0 or 1 of a block */
+#define CXPI_WRONG_BLOCK 3    /* wrong byte 0 or 1 of a block, or a wrong profile */
 #define CXPI_WRONG_REVISION 4 /* revision 0, or blocks differ in it */
 #define CXPI_WRONG_TIME 5     /* a time breaks its rule */
 #define CXPI_WRONG_NODE 6     /* N or a node entry breaks its rule */
@@ -89,7 +89,7 @@ uint32_t cxpi_version(void);
 #define CXPI_SET_LENGTH_TWO 1536
 
 /* A plan record. Entries from N on and rows past the count are unused: cxpi_read leaves zeros there, and every call ignores them. */
-#define CXPI_PLAN_LENGTH 591
+#define CXPI_PLAN_LENGTH 592
 #define CXPI_PLAN_REVISION_AT 0     /* two bytes: 1 to 65,535 */
 #define CXPI_PLAN_NODE_COUNT_AT 2   /* N, the number of nodes: 1 to CXPI_MOST_NODES */
 #define CXPI_PLAN_ROW_COUNT_AT 3    /* two bytes: 1 to CXPI_MOST_ROWS */
@@ -103,6 +103,7 @@ uint32_t cxpi_version(void);
 #define CXPI_PLAN_CLOCK_START_AT 17 /* C, from a wake-up to the clock's start */
 #define CXPI_PLAN_ENTRIES_AT 19     /* CXPI_MOST_NODES node entries, by node number */
 #define CXPI_PLAN_ROWS_AT 83        /* CXPI_MOST_ROWS rows, ReqIds rising */
+#define CXPI_PLAN_PROFILE_AT 591    /* 1 for panels whose power the ignition cuts, which never sleep, else 0 */
 
 /* A node entry. */
 #define CXPI_ENTRY_LENGTH 4

@@ -18,7 +18,7 @@ static inline const char *cxpi_refusal_text(uint32_t number) {
     case CXPI_WRONG_CHECK:
         return "a block's check differs";
     case CXPI_WRONG_BLOCK:
-        return "byte 0 or 1 of a block is wrong";
+        return "byte 0 or 1 of a block or the profile is wrong";
     case CXPI_WRONG_REVISION:
         return "the revision is 0, or blocks differ in it";
     case CXPI_WRONG_TIME:

@@ -139,7 +139,7 @@ static void test_read_bytes(void) {
     }
     for (size_t offset = 0; offset < sizeof set; offset++) {
         size_t in_block = offset % 512;
-        bool filler = offset < 512 ? in_block == 5 || (in_block >= 20 && in_block < 32) || (in_block >= 36 && in_block < 510)
+        bool filler = offset < 512 ? (in_block >= 20 && in_block < 32) || (in_block >= 36 && in_block < 510)
                                    : (in_block >= 5 && in_block < 8) || (in_block >= 12 && in_block < 510);
         if (filler) {
             expect_refused_set("filler 1", EDITS({offset, 1}), 9);
@@ -154,6 +154,9 @@ static void test_read_plan_block(void) {
     expect_refused_set("plan block's byte 1", EDITS({1, 0}), 3);
     expect_refused_set("message block's byte 0", EDITS({512, 0x50}), 3);
     expect_refused_set("message block's byte 1", EDITS({513, 2}), 3);
+    expect_refused_set("profile 2", EDITS({5, 2}), 3);
+    expect_refused_set("profile 255", EDITS({5, 255}), 3);
+    expect_mended("profile 1", EDITS({5, 1}), 0, EDITS({CXPI_PLAN_PROFILE_AT, 1}));
     expect_refused_set("revision 0", EDITS({3, 0}, {515, 0}), 4);
     expect_refused_set("edge 2: block 1 of revision 8", EDITS({515, 8}), 4);
     expect_refused_set("block 1 of revision 263", EDITS({514, 1}), 4);
@@ -220,13 +223,14 @@ static void test_read_order(void) {
     apply(EDITS({0, 0}, {1023, 0}), set);
     expect_read("2 in the last block before 3 in the first", set, sizeof set, 0, 2, NULL);
     expect_refused_set("3 in the last block before 4", EDITS({3, 0}, {513, 0}), 3);
+    expect_refused_set("3 of the profile before 4", EDITS({5, 2}, {3, 0}, {515, 0}), 3);
     expect_refused_set("4 before 5", EDITS({515, 8}, {7, 0}), 4);
     expect_refused_set("5 before 6", EDITS({19, 0}, {4, 0}), 5);
     expect_refused_set("6 before 7", EDITS({35, 1}, {516, 0}), 6);
     expect_refused_set("7 before 8", EDITS({521, 255}, {522, 0}, {523, 2}), 7);
-    expect_refused_set("8 before 9", EDITS({521, 255}, {5, 1}), 8);
+    expect_refused_set("8 before 9", EDITS({521, 255}, {20, 1}), 8);
     memcpy(set, set_t, sizeof set);
-    apply(EDITS({5, 1}), set);
+    apply(EDITS({20, 1}), set);
     mend_checks(set, sizeof set);
     expect_read("9 before 10", set, sizeof set, 0, 9, NULL);
     end_group("read: order");
@@ -274,7 +278,7 @@ static void test_write_lengths(void) {
             expect_refused_plan("another length of a plan", longer, length, CXPI_SET_LENGTH_ONE, 4);
         }
     }
-    expect_refused_plan("another length before 10", longer, 590, 0, 4);
+    expect_refused_plan("another length before 10", longer, CXPI_PLAN_LENGTH - 1, 0, 4);
     end_group("write: lengths");
 }
 
@@ -286,7 +290,10 @@ typedef struct {
 } broken_plan;
 
 static const broken_plan broken_plans[] = {
+    {"profile 2", EDITS({CXPI_PLAN_PROFILE_AT, 2}), 3},
+    {"profile 255", EDITS({CXPI_PLAN_PROFILE_AT, 255}), 3},
     {"revision 0", EDITS({1, 0}), 4},
+    {"revision 0 under the profile", EDITS({CXPI_PLAN_PROFILE_AT, 1}, {1, 0}), 4},
     {"W 0", EDITS({6, 0}), 5},
     {"D 0", EDITS({8, 0}), 5},
     {"S 0", EDITS({10, 0}), 5},
@@ -319,6 +326,7 @@ static const broken_plan broken_plans[] = {
     {"the same ReqId twice", EDITS({4, 2}, {87, 16}), 7},
     {"a silent node", EDITS({84, 255}), 8},
     {"a silent second node", EDITS({2, 2}, {23, 1}, {24, 1}), 8},
+    {"3 before 4", EDITS({CXPI_PLAN_PROFILE_AT, 2}, {1, 0}), 3},
     {"4 before 5", EDITS({1, 0}, {6, 0}), 4},
     {"5 before 6", EDITS({6, 0}, {2, 0}), 5},
     {"6 before 7", EDITS({20, 0}, {83, 0}), 6},
@@ -330,6 +338,18 @@ enum { BROKEN_PLANS = sizeof broken_plans / sizeof broken_plans[0] };
 static void break_plan(const broken_plan *broken, uint8_t *plan) {
     memcpy(plan, plan_t, CXPI_PLAN_LENGTH);
     apply(broken->edits, plan);
+}
+
+static void test_write_profile(void) {
+    uint8_t plan[CXPI_PLAN_LENGTH];
+    uint8_t set[CXPI_SET_LENGTH_ONE];
+    memcpy(plan, plan_t, sizeof plan);
+    memcpy(set, set_t, sizeof set);
+    plan[CXPI_PLAN_PROFILE_AT] = 1;
+    set[5] = 1;
+    mend_checks(set, sizeof set);
+    expect_written("the profile is written", plan, CXPI_SET_LENGTH_ONE, set, 1024);
+    end_group("write: profile");
 }
 
 static void test_write_refusals(void) {
@@ -1303,7 +1323,7 @@ int main(int count, char **arguments) {
     if (count > 1) {
         test_file(arguments[1]);
     }
-    check(cxpi_version() == 4, "version");
+    check(cxpi_version() == 5, "version");
     end_group("version");
     test_read_lengths();
     test_read_bytes();
@@ -1312,6 +1332,7 @@ int main(int count, char **arguments) {
     test_read_rows();
     test_read_order();
     test_write_lengths();
+    test_write_profile();
     test_write_refusals();
     test_two_blocks();
     test_power_on();

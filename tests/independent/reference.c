@@ -1,4 +1,4 @@
-/* Document 01 in plain C, mended by W-204 and with W-205: the reader and writer of release sets, the master machine and the node machine.
+/* Document 01 in plain C, mended by W-204, with W-205 and the profile of W-206: the reader and writer of release sets, the master machine and the node machine.
  *
  * Compile: gcc -std=c11 -O2 -Wall -Wextra -Werror -pedantic -c tests/independent/reference.c */
 #include "reference.h"
@@ -44,7 +44,11 @@ static bool all_zero(const uint8_t *bytes, size_t from, size_t to) {
     return true;
 }
 
-/* The plan's rules, 4 to 8 */
+/* The plan's rules, 3 to 8 */
+
+static bool profile_is_right(uint8_t profile) {
+    return profile <= 1;
+}
 
 static bool time_is_right(uint16_t ticks) {
     return ticks >= 1 && ticks <= 30000;
@@ -108,6 +112,9 @@ static bool each_node_publishes(const reference_plan *plan) {
 }
 
 uint32_t reference_plan_refusal(const reference_plan *plan) {
+    if (!profile_is_right(plan->profile)) {
+        return 3;
+    }
     if (plan->revision == 0) {
         return 4;
     }
@@ -158,6 +165,9 @@ static bool heads_are_right(const uint8_t *set, size_t blocks) {
         if (bytes[0] != (block == 0 ? 0x50 : 0x4D) || bytes[1] != 1) {
             return false;
         }
+        if (block == 0 && !profile_is_right(bytes[5])) {
+            return false;
+        }
     }
     return true;
 }
@@ -183,7 +193,7 @@ static bool row_counts_are_right(const uint8_t *set, size_t blocks) {
 }
 
 static bool filler_is_zero(const uint8_t *set, size_t blocks) {
-    if (set[5] != 0 || !all_zero(set, 20, 32) || !all_zero(set, 32 + 4 * (size_t)set[4], 510)) {
+    if (!all_zero(set, 20, 32) || !all_zero(set, 32 + 4 * (size_t)set[4], 510)) {
         return false;
     }
     for (size_t block = 1; block < blocks; block++) {
@@ -238,6 +248,7 @@ static uint32_t read_blocks(const uint8_t *set, size_t length, reference_plan *p
         return 4;
     }
     plan->revision = number_at(set, 2);
+    plan->profile = set[5];
     read_times(set, &plan->times);
     if (!times_are_right(&plan->times)) {
         return 5;
@@ -280,6 +291,7 @@ static void write_plan_block(const reference_plan *plan, uint8_t *block) {
     block[1] = 1;
     put_number(block, 2, plan->revision);
     block[4] = plan->node_count;
+    block[5] = plan->profile;
     put_number(block, 6, times->window);
     put_number(block, 8, times->stop);
     put_number(block, 10, times->sleep);

@@ -46,6 +46,7 @@ typedef struct {
 
 typedef struct {
     uint16_t revision;
+    uint8_t profile; /* W-206: 1 for panels whose power the ignition cuts, else 0 */
     uint8_t node_count;
     uint16_t row_count;
     reference_times times;

@@ -42,6 +42,7 @@ void reference_pack_plan(const reference_plan *plan, uint8_t *bytes) {
     put_two(bytes + 17, plan->times.start);
     memcpy(bytes + 19, plan->nodes, sizeof plan->nodes);
     memcpy(bytes + 83, plan->rows, sizeof plan->rows);
+    bytes[591] = plan->profile;
 }
 
 void reference_unpack_plan(const uint8_t *bytes, reference_plan *plan) {
@@ -57,6 +58,7 @@ void reference_unpack_plan(const uint8_t *bytes, reference_plan *plan) {
     plan->times.start = get_two(bytes + 17);
     memcpy(plan->nodes, bytes + 19, sizeof plan->nodes);
     memcpy(plan->rows, bytes + 83, sizeof plan->rows);
+    plan->profile = bytes[591];
 }
 
 /* Unpacks a lent plan; one of another length is the all-zero record. */
@@ -69,7 +71,7 @@ static void take_plan(const uint8_t *bytes, size_t length, reference_plan *plan)
 }
 
 uint32_t reference_cxpi_version(void) {
-    return 4;
+    return 5;
 }
 
 uint32_t reference_cxpi_read(const uint8_t *set, size_t set_length, uint8_t *plan, size_t plan_length) {

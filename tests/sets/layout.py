@@ -1,4 +1,4 @@
-"""A release set's bytes, from document 01."""
+"""A release set's bytes, from document 01, and byte 5 of the plan block from document 02, W-206."""
 
 
 def check(block):
@@ -13,12 +13,13 @@ def mended(data):
     return bytes(data)
 
 
-def plan_set(revision, times, nodes, rows):
+def plan_set(revision, times, nodes, rows, profile=0):
     """A set's bytes. Nodes are (address, class, method); rows are (ReqId, publisher, length, sequence count or not)."""
     plan = bytearray(512)
     plan[0:2] = b"\x50\x01"
     plan[2:4] = revision.to_bytes(2, "big")
     plan[4] = len(nodes)
+    plan[5] = profile
     for i, ticks in enumerate(times):
         plan[6 + 2 * i : 8 + 2 * i] = ticks.to_bytes(2, "big")
     for i, node in enumerate(nodes):

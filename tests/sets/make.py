@@ -1,5 +1,5 @@
 #!/usr/bin/env python3
-"""Makes the sets that the programs are tested on, and what must be printed of each, from document 01 alone.
+"""Makes the sets that the programs are tested on, and what must be printed of each, from documents 01 and 02 alone.
 
 Run at the repository's root. It writes crates/set_cases/data/*.set, crates/set_cases/args, crates/set_cases/stdout,
 crates/show/data/plan.set, crates/show/stdout and examples/set-t/plan.set. The numbers and words below are document 01's; nothing here
@@ -14,7 +14,7 @@ TIMES = ["W window", "D clock stop", "S node sleep", "E quiet limit", "R wake-up
 RULES = {
     1: "the length is not 1,024 or 1,536 bytes",
     2: "a block's check differs",
-    3: "byte 0 or 1 of a block is wrong",
+    3: "byte 0 or 1 of a block or the profile is wrong",
     4: "the revision is 0, or blocks differ in it",
     5: "a time breaks its rule",
     6: "the number of nodes or a node entry breaks its rule",
@@ -24,8 +24,9 @@ RULES = {
 }
 
 
-def words(revision, times, nodes, rows):
+def words(revision, times, nodes, rows, profile=0):
     lines = ["revision %d" % revision]
+    lines += ["profile: the ignition cuts the power, no sleep"] * profile
     lines += ["%s, ticks: %d" % pair for pair in zip(TIMES, times)]
     for i, (address, diagnostic, method) in enumerate(nodes):
         lines.append("node %d: address %02X hex, diagnostic class %d, %s" % (i, address, diagnostic, ["event-triggered", "polled"][method]))
@@ -70,6 +71,8 @@ cases = [
     ("hundred_rows", plan_set(**HUNDRED), words(**HUNDRED)),
     ("one_row_more", one_more, words(**ONE_MORE)),
     ("sleep_equals_stop", mended(put(set_t, (11, 2))), words(**dict(T, times=[10, 2, 2, 4, 5, 6, 1]))),
+    ("profile", plan_set(**T, profile=1), words(**T, profile=1)),
+    ("profile_full", plan_set(**FULL, profile=1), words(**FULL, profile=1)),
     # 1
     ("empty", b"", refused(1)),
     ("one_block", set_t[:512], refused(1)),
@@ -81,14 +84,20 @@ cases = [
     ("check_of_second_rows", put(full, (1535, full[1535] ^ 1)), refused(2)),
     ("byte_509", put(set_t, (509, 1)), refused(2)),
     ("type_and_check", put(set_t, (0, 0x4D)), refused(2)),
+    ("profile_and_check", put(set_t, (5, 1)), refused(2)),
+    ("profile_2_and_check", put(set_t, (5, 2)), refused(2)),
     # 3, also before 4
     ("type_of_plan", mended(put(set_t, (0, 0x4D))), refused(3)),
     ("version_of_rows", mended(put(set_t, (513, 2), (515, 8))), refused(3)),
     ("third_block_of_zeros", set_t + bytes(512), refused(3)),
+    ("profile_2", mended(put(set_t, (5, 2))), refused(3)),
+    ("profile_255", mended(put(set_t, (5, 255))), refused(3)),
+    ("profile_2_revision_zero", mended(put(set_t, (5, 2), (3, 0), (515, 0))), refused(3)),
     # 4, also before 5
     ("other_revision", mended(put(set_t, (515, 8))), refused(4)),
     ("other_revision_second", mended(put(full, (1026, 0))), refused(4)),
     ("revision_zero", mended(put(set_t, (3, 0), (515, 0), (7, 0))), refused(4)),
+    ("profile_revision_zero", mended(put(set_t, (5, 1), (3, 0), (515, 0))), refused(4)),
     # 5, also before 6
     ("sleep_below_stop", mended(put(set_t, (11, 1))), refused(5)),
     ("time_zero", mended(put(set_t, (19, 0), (4, 0))), refused(5)),
@@ -114,13 +123,13 @@ cases = [
     ("publisher_n", mended(put(set_t, (521, 1))), refused(7)),
     ("kind_2", mended(put(set_t, (523, 2))), refused(7)),
     # 8, also before 9
-    ("node_publishes_nothing", mended(put(two, (525, 0), (5, 1))), refused(8)),
+    ("node_publishes_nothing", mended(put(two, (525, 0), (20, 1))), refused(8)),
     # 9
-    ("filler_5", mended(put(set_t, (5, 1))), refused(9)),
     ("filler_20", mended(put(set_t, (20, 1))), refused(9)),
     ("filler_31", mended(put(set_t, (31, 1))), refused(9)),
     ("filler_after_nodes", mended(put(set_t, (36, 1))), refused(9)),
     ("filler_509", mended(put(set_t, (509, 1))), refused(9)),
+    ("profile_and_filler", mended(put(set_t, (5, 1), (20, 1))), refused(9)),
     ("filler_of_rows_5", mended(put(set_t, (517, 1))), refused(9)),
     ("filler_of_rows_7", mended(put(set_t, (519, 1))), refused(9)),
     ("filler_after_rows", mended(put(set_t, (524, 1))), refused(9)),

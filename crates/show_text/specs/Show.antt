@@ -1,5 +1,6 @@
 -- The words for a set.
 use Prim.Native.Nat.{ℕ, zero, suc}
+use mathlib.Core.Bool.{Bool}
 use mathlib.Core.List.{List, [], _++_}
 use lib.Dec.{eqb}
 use Rattle.folds.specs.Fold.{pick}
@@ -7,6 +8,7 @@ use Rattle.plan.specs.declared.NodeEntry.{NodeEntry}
 use Rattle.plan.specs.declared.Row.{Row}
 use Rattle.plan.specs.declared.Times.{Times}
 use Rattle.plan.specs.declared.Plan.{Plan}
+use Rattle.plan.specs.Profile.{sleeps}
 use Rattle.plan.specs.Record.{entryAt, rowAt}
 use Rattle.reader.specs.declared.ReadAnswer.{ReadAnswer}
 use Rattle.text.specs.Text.{ascii, decimal, hexByte}
@@ -60,8 +62,12 @@ rowsText rows (suc n) = rowsText rows n ++ rowLine (rowAt rows n)
 unfoldable pub revisionLine : ℕ → List ℕ
 revisionLine revision = ascii "revision " ++ decimal revision ++ ascii "\n"
 
+-- for panels that never sleep; a set without the profile is shown as it was
+unfoldable pub profileLine : Bool → List ℕ
+profileLine sleeping = pick sleeping [] (ascii "profile: the ignition cuts the power, no sleep\n")
+
 unfoldable pub planText : Plan → List ℕ
-planText p = revisionLine (p .revision) ++ timesText (p .times) ++ nodesText (p .nodes) (p .nodecount) ++ rowsText (p .rows) (p .rowcount)
+planText p = revisionLine (p .revision) ++ profileLine (sleeps p) ++ timesText (p .times) ++ nodesText (p .nodes) (p .nodecount) ++ rowsText (p .rows) (p .rowcount)
 
 -- the refusal table's words for 1 to 9: of a set's content from 5 on
 unfoldable pub contentRuleText : ℕ → List ℕ
@@ -76,7 +82,7 @@ unfoldable pub ruleText : ℕ → List ℕ
 ruleText number =
     pick (eqb number 1) (ascii "the length is not 1,024 or 1,536 bytes")
     (pick (eqb number 2) (ascii "a block's check differs")
-    (pick (eqb number 3) (ascii "byte 0 or 1 of a block is wrong")
+    (pick (eqb number 3) (ascii "byte 0 or 1 of a block or the profile is wrong")
     (pick (eqb number 4) (ascii "the revision is 0, or blocks differ in it")
     (contentRuleText number))))
 

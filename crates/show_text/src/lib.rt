@@ -3,7 +3,7 @@ ghost use Prim.Native.Nat.{_≤_};
 ghost use Rattle.text.specs.Text.{Appended, Shown, Counts};
 ghost use Rattle.plan.specs.Limits.{maxNodes, maxRows};
 ghost use Rattle.reader.specs.Read.{readSet};
-ghost use Rattle.show_text.specs.Show.{timeLine, wakeUpTimesText, timesText, methodText, classAndMethodText, nodeLine, nodesText, publisherText, countText, lengthAndCountText, rowLine, rowsText, revisionLine, planText, contentRuleText, ruleText, refusalText, answerText};
+ghost use Rattle.show_text.specs.Show.{timeLine, wakeUpTimesText, timesText, methodText, classAndMethodText, nodeLine, nodesText, publisherText, countText, lengthAndCountText, rowLine, rowsText, revisionLine, profileLine, planText, contentRuleText, ruleText, refusalText, answerText};
 use plan::NodeEntry;
 use plan::Plan;
 use plan::Row;
@@ -153,6 +153,20 @@ fn append_revision(buffer: &mut [u8], at: usize, revision: u16) -> usize
     append(buffer, b, b"\n")
 }
 
+// A line for panels that never sleep; none for others.
+fn append_profile(buffer: &mut [u8], at: usize, sleeps: bool) -> usize
+    ensures { λ r. ⌜ Appended at (profileLine sleeps) (now (buffer .entry)) (now (buffer .exit)) r ⌝ }
+{
+    if sleeps {
+        return at;
+    }
+    append(
+        buffer,
+        at,
+        b"profile: the ignition cuts the power, no sleep\n",
+    )
+}
+
 fn append_plan(buffer: &mut [u8], at: usize, p: Plan) -> usize
     requires { ⌜ (p .nodecount ≤ maxNodes) × (p .rowcount ≤ maxRows) ⌝ }
     ensures { λ r. ⌜ Appended at (planText p) (now (buffer .entry)) (now (buffer .exit)) r ⌝ }
@@ -160,10 +174,12 @@ fn append_plan(buffer: &mut [u8], at: usize, p: Plan) -> usize
     let times = p.times;
     let nodes = p.nodes;
     let rows = p.rows;
+    let sleeps = p.sleeps();
     let a = append_revision(buffer, at, p.revision);
-    let b = append_times(buffer, a, times);
-    let c = append_nodes(buffer, b, nodes, p.nodecount as usize);
-    append_rows(buffer, c, rows, p.rowcount as usize)
+    let b = append_profile(buffer, a, sleeps);
+    let c = append_times(buffer, b, times);
+    let d = append_nodes(buffer, c, nodes, p.nodecount as usize);
+    append_rows(buffer, d, rows, p.rowcount as usize)
 }
 
 fn append_content_rule(buffer: &mut [u8], at: usize, number: u8) -> usize
@@ -198,7 +214,11 @@ fn append_rule(buffer: &mut [u8], at: usize, number: u8) -> usize
         return append(buffer, at, b"a block's check differs");
     }
     if number == 3 {
-        return append(buffer, at, b"byte 0 or 1 of a block is wrong");
+        return append(
+            buffer,
+            at,
+            b"byte 0 or 1 of a block or the profile is wrong",
+        );
     }
     if number == 4 {
         return append(buffer, at, b"the revision is 0, or blocks differ in it");
