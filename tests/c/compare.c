@@ -31,13 +31,13 @@ enum { NUMBERS = 23, OTHER_NUMBER = NUMBERS };
 /* The numbers that include/cxpi.h names for each export; -1 ends a list. */
 static const int expected_numbers[EXPORTS][NUMBERS] = {
     {0, 1, 2, 3, 4, 5, 6, 7, 8, 9, 10, -1},
-    {0, 4, 5, 6, 7, 8, 10, -1},
+    {0, 3, 4, 5, 6, 7, 8, 10, -1},
     {0, 10, -1},
     {0, 10, -1},
-    {0, 4, 5, 6, 7, 8, 10, 11, 12, 13, 14, 15, 16, 17, 18, 19, 20, -1},
-    {0, 4, 5, 6, 7, 8, 10, 11, 12, 15, 16, 21, -1},
+    {0, 3, 4, 5, 6, 7, 8, 10, 11, 12, 13, 14, 15, 16, 17, 18, 19, 20, -1},
+    {0, 3, 4, 5, 6, 7, 8, 10, 11, 12, 15, 16, 21, -1},
     {0, 22, -1},
-    {0, 4, 5, 6, 7, 8, 10, 11, 16, -1},
+    {0, 3, 4, 5, 6, 7, 8, 10, 11, 16, -1},
 };
 
 static uint64_t came[EXPORTS][OTHER_NUMBER + 1];
@@ -116,6 +116,7 @@ static void random_rows(reference_plan *plan) {
 static void random_plan(reference_plan *plan) {
     memset(plan, 0, sizeof *plan);
     plan->revision = (uint16_t)between(1, 65535);
+    plan->profile = percent(25);
     plan->times = random_times();
     random_nodes(plan);
     random_rows(plan);
@@ -132,7 +133,7 @@ static void break_plan(const reference_plan *plan, uint8_t *bytes) {
     uint8_t *node = bytes + 19 + 4 * below(plan->node_count);
     uint8_t *row = bytes + 83 + 4 * below(plan->row_count);
     uint8_t silent = (uint8_t)below(plan->node_count);
-    switch (below(9)) {
+    switch (below(10)) {
     case 0:
         put_two(bytes, 0);
         break;
@@ -157,6 +158,9 @@ static void break_plan(const reference_plan *plan, uint8_t *bytes) {
     case 7:
         row += below(4);
         *row = another_byte(*row);
+        break;
+    case 8:
+        bytes[CXPI_PLAN_PROFILE_AT] = percent(50) ? 2 : another_byte(bytes[CXPI_PLAN_PROFILE_AT]);
         break;
     default: /* a node's rows become the master's */
         for (size_t place = 0; place < plan->row_count; place++) {

@@ -130,12 +130,17 @@ static void probe_plan(void) {
         IS(row[CXPI_ROW_DATA_LENGTH_AT] == rows[place][2]);
         IS(row[CXPI_ROW_COUNTED_AT] == (place % 2 == 0 && place < 3));
     }
-    IS(plan[CXPI_PLAN_LENGTH - 1] == 0 && is_painted(plan, CXPI_PLAN_LENGTH));
+    IS(plan[CXPI_PLAN_PROFILE_AT] == 0 && is_painted(plan, CXPI_PLAN_LENGTH));
     IS(cxpi_read(set, 1024, plan, CXPI_PLAN_LENGTH) == CXPI_DONE);
     IS(cxpi_read(set, 1024, plan, CXPI_PLAN_LENGTH - 1) == CXPI_BUFFER_SHORT);
     plan[CXPI_PLAN_ENTRIES_AT + CXPI_ENTRY_ZERO_AT] = 1;
     uint16_t length;
     IS(cxpi_write(plan, CXPI_PLAN_LENGTH, back, sizeof back, &length) == CXPI_WRONG_NODE && length == 0);
+    set[5] = 1;
+    mend_checks(1024);
+    IS(read_set(1024) == CXPI_DONE && plan[CXPI_PLAN_PROFILE_AT] == 1);
+    plan[CXPI_PLAN_PROFILE_AT] = 2;
+    IS(cxpi_write(plan, CXPI_PLAN_LENGTH, back, sizeof back, &length) == CXPI_WRONG_BLOCK && length == 0);
 }
 
 static void probe_lengths_of_sets(void) {
@@ -178,6 +183,7 @@ static void probe_refusals_of_sets(void) {
     set[511]++;
     IS(read_set(1024) == CXPI_WRONG_CHECK);
     IS(is_refused(1, 2, CXPI_WRONG_BLOCK));
+    IS(is_refused(5, 2, CXPI_WRONG_BLOCK));
     IS(is_refused(515, 8, CXPI_WRONG_REVISION));
     IS(is_refused(9, 0, CXPI_WRONG_TIME));
     IS(is_refused(33, 4, CXPI_WRONG_NODE));

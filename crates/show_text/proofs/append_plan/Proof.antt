@@ -32,7 +32,7 @@ cast-append-rows : tie.Need-cast-append-rows
 cast-append-rows c = search needs
 
 append-rows-requires : tie.Need-append-rows-requires
-append-rows-requires c κs = search needs
+append-rows-requires c κs = c .before .before .before .before .before .before .before .before .before .before .before .before .before .before .before .before .before .before .before .before .before .before .before .before .pre .1
 
 same-length : tie.Need-same-length
 same-length c = search needs
@@ -42,7 +42,7 @@ unfolding planText
 returns c =
     let s = c .before .before .before .before .before .before .before .before .before .before .before .before .before .before .before .before .before .before .before .before .before .before .before .before .before .before .before in
     let f : length (s .args .buffer .now) ≤ largest = omega (arith, s .good .0 .0) in
-    let line = appended-as (ap profileLine (c .before .before .before .before .before .before .before .before .before .before .before .before .before .before .before .before .before .before .before .before .before .before .before .before .before .sleeps .ensures)) (c .before .before .before .before .before .before .before .before .before .before .before .before .before .before .before .before .append-profile .ensures) in
+    let line = appended-as (ap profileLine (c .before .before .before .before .before .before .before .before .before .before .before .before .before .before .before .before .before .before .before .before .before .before .sleeps .ensures)) (c .before .before .before .before .before .before .before .before .before .before .before .before .before .before .before .before .append-profile .ensures) in
     appended-then f (appended-then f (appended-then f (appended-then f (c .before .before .before .before .before .before .before .before .before .before .before .before .before .before .before .before .before .before .before .before .append-revision .ensures) line) (c .before .before .before .before .before .before .before .before .before .before .before .before .append-times .ensures)) (c .before .before .before .before .before .before .before .append-nodes .ensures)) (c .before .before .append-rows .ensures)
 
 pub append-plan-spec : {M : Type 1} → statement M

@@ -6,9 +6,6 @@ use borrow.Author.Needs.{needs}
 use Rattle.show_text.proofs.append_profile.Statement.{statement}
 use Rattle.show_text.proofs.append_profile.Tie as tie
 
-same-length : tie.Need-same-length
-same-length c = search needs
-
 returns : tie.Need-returns
 unfolding profileLine
 returns c = appended-as (rw (c .if1 .taken)) (appended-none _ _ (omega arith))
@@ -19,8 +16,8 @@ slice-aggregate-append c = search needs
 append-requires : tie.Need-append-requires
 append-requires c κs = search needs
 
-same-length-2 : tie.Need-same-length-2
-same-length-2 c = search needs
+same-length : tie.Need-same-length
+same-length c = search needs
 
 returns-2 : tie.Need-returns-2
 unfolding profileLine
@@ -30,9 +27,8 @@ pub append-profile-spec : {M : Type 1} → statement M
 append-profile-spec =
     tie.close
     (tie.spec
-    same-length
     returns
     slice-aggregate-append
     append-requires
-    same-length-2
+    same-length
     returns-2)
