@@ -189,7 +189,7 @@ static void probe_refusals_of_sets(void) {
     IS(is_refused(33, 4, CXPI_WRONG_NODE));
     IS(is_refused(520, 17, CXPI_WRONG_ROW));
     IS(is_refused(529, 1, CXPI_NO_ROW_OF_NODE));
-    IS(is_refused(5, 1, CXPI_FILLER));
+    IS(is_refused(20, 1, CXPI_FILLER));
 }
 
 /* The master */

@@ -262,9 +262,11 @@ sets["time"] = plan_set(7, [0] + TIMES[1:], NODES, ONE)
 sets["node"] = plan_set(7, TIMES, [(0x41, 4, 1)], ONE)
 sets["row"] = plan_set(7, TIMES, NODES, [(16, 0, 2, 2)])
 sets["silent"] = plan_set(7, TIMES, NODES + [(0x42, 1, 1)], ONE)
-sets["filler"] = mended(sets["t"][:5] + b"\1" + sets["t"][6:])
+sets["filler"] = mended(sets["t"][:20] + b"\1" + sets["t"][21:])
+sets["profile"] = mended(sets["t"][:5] + b"\2" + sets["t"][6:])
 for refusal, name in enumerate(["size", "check", "block", "revision", "time", "node", "row", "silent", "filler"]):
     cases.refused(name, "document-01-12", refusal + 1)
+cases.refused("profile", "document-01-12", 3)
 cases.refused("missing", "document-01-12", 1)
 cases.refused("missing", "no-move", 1)
 

@@ -8,6 +8,6 @@ use Rattle.plan.specs.declared.Plan.{Plan}
 abbrev pub profileRight : ℕ → Bool
 profileRight profile = leb profile 1
 
--- "the ignition cuts the power, so there is no wake-up or sleep", but without the profile there is
+-- whether the machines of a plan sleep and wake: under the profile "the ignition cuts the power, so there is no wake-up or sleep"
 abbrev pub sleeps : Plan → Bool
 sleeps p = eqb (p .profile) 0
