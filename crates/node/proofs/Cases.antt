@@ -1,7 +1,7 @@
 -- The walk through a node's steps, for whatever holds of each reply.
 use Prim.Native.Nat.{ℕ, _+_, _*_}
 use mathlib.Core.Path.{_≡_, refl}
-use mathlib.Core.Bool.{Bool, true, false}
+use mathlib.Core.Bool.{Bool, true, false, _&&_}
 use mathlib.Core.List.{List}
 use lib.Dec.{ltb, eqb}
 use borrow.Author.Tests.{eqb-true}
@@ -15,7 +15,7 @@ use Rattle.node.specs.declared.Reply.{Reply}
 use Rattle.node.specs.Changes.{withHeard, withDelay, silent, calls, refuse}
 use Rattle.node.specs.Ticks.{awakeTick, normalBy, callerTick, tickBy}
 use Rattle.node.specs.Waking.{pulseBy, callAnew, wakeAskBy, permissionStep}
-use Rattle.node.specs.Sending.{inNormal, sendStep, requestRow, requestStep, sendAskRow, sendAskStep}
+use Rattle.node.specs.Sending.{inNormal, sleepMessageStep, sendStep, requestRow, requestStep, sendAskRow, sendAskStep}
 
 -- n itself where these are its own state, caller and delay
 abbrev pub split : Node → State → Bool → Delay → Node
@@ -51,21 +51,22 @@ message n wake heard counts =
 
 -- what holds of each reply without command, of a node with this permission, holds of a tick in Normal, a pulse and a permission ..
 module _ (P : Reply → Type 0) (permitted : Bool) (quietly : (m : Node) → m .permission ≡ permitted → P (silent m)) where
-  awake-any : (limit : ℕ) (clock : Bool) (n : Node) → n .permission ≡ permitted → P (awakeTick limit clock n)
-  awake-any limit true n h = quietly _ h
-  awake-any limit false n h = by-test P (ltb (n .quiet + 1) limit) (λ l. quietly _ h) (λ l. by-test P (n .permission) (λ y. quietly _ h) (λ y. quietly _ h))
+  awake-any : (sleeps : Bool) (limit : ℕ) (clock : Bool) (n : Node) → n .permission ≡ permitted → P (awakeTick sleeps limit clock n)
+  awake-any sleeps limit true n h = quietly _ h
+  awake-any sleeps limit false n h = by-test P (ltb (n .quiet + 1) limit) (λ l. quietly _ h) (λ l. by-test P (sleeps && n .permission) (λ y. quietly _ h) (λ y. quietly _ h))
 
-  pub normal-any : (t : Times) (clock : Bool) (delay : Delay) (n : Node) → n .permission ≡ permitted → P (normalBy t clock delay n)
-  normal-any t clock Delay.Off n h = awake-any (t .quiet) clock n h
-  normal-any t clock (Delay.On ticks) n h = by-test P (ltb (ticks + 1) (t .sleep)) (λ l. awake-any (t .quiet) clock (withDelay (Delay.On (ticks + 1)) n) h) (λ l. quietly _ h)
+  pub normal-any : (sleeps : Bool) (t : Times) (clock : Bool) (delay : Delay) (n : Node) → n .permission ≡ permitted → P (normalBy sleeps t clock delay n)
+  normal-any sleeps t clock Delay.Off n h = awake-any sleeps (t .quiet) clock n h
+  normal-any sleeps t clock (Delay.On ticks) n h =
+      by-test P (ltb (ticks + 1) (t .sleep)) (λ l. awake-any sleeps (t .quiet) clock (withDelay (Delay.On (ticks + 1)) n) h) (λ l. quietly _ h)
 
   pub pulse-any : (state : State) (n : Node) → n .permission ≡ permitted → P (pulseBy state n)
   pulse-any State.Normal n h = quietly _ h
   pulse-any State.Standby n h = quietly _ h
   pulse-any State.Sleep n h = quietly _ h
 
-  pub permission-any : (n : Node) → P (permissionStep permitted n)
-  permission-any n = by-test P permitted (λ y. by-test P (n .error) (λ e. quietly _ refl) (λ e. quietly _ refl)) (λ y. quietly _ refl)
+  pub permission-any : (sleeps : Bool) (n : Node) → P (permissionStep sleeps permitted n)
+  permission-any sleeps n = by-test P permitted (λ y. by-test P (sleeps && n .error) (λ e. quietly _ refl) (λ e. quietly _ refl)) (λ y. quietly _ refl)
 
   -- .. and, where it holds of each pulse too, of any tick and of an ask to wake
   module _ (calling : (m : Node) → m .permission ≡ permitted → P (calls m)) where
@@ -75,21 +76,21 @@ module _ (P : Reply → Type 0) (permitted : Bool) (quietly : (m : Node) → m .
         (λ l. by-test P (eqb (n .standby + 1) recovery) (λ e. calling _ h) (λ e. quietly _ h))
         (λ l. by-test P (n .permission) (λ y. quietly _ h) (λ y. quietly _ h))
 
-    pub tick-any : (t : Times) (clock : Bool) (state : State) (n : Node) → n .permission ≡ permitted → P (tickBy t clock state n)
-    tick-any t clock State.Normal n h = normal-any t clock (n .delay) n h
-    tick-any t clock State.Standby n h =
+    pub tick-any : (sleeps : Bool) (t : Times) (clock : Bool) (state : State) (n : Node) → n .permission ≡ permitted → P (tickBy sleeps t clock state n)
+    tick-any sleeps t clock State.Normal n h = normal-any sleeps t clock (n .delay) n h
+    tick-any sleeps t clock State.Standby n h =
         by-test P clock (λ k. quietly _ h)
         (λ k. by-test P (n .caller) (λ c. caller-any (t .recovery) n h) (λ c. by-test P (ltb (n .standby + 1) (t .space)) (λ l. quietly _ h) (λ l. quietly _ h)))
-    tick-any t clock State.Sleep n h = by-test P clock (λ k. quietly _ h) (λ k. quietly _ h)
+    tick-any sleeps t clock State.Sleep n h = by-test P clock (λ k. quietly _ h) (λ k. quietly _ h)
 
     call-anew-any : (n : Node) → n .permission ≡ permitted → P (callAnew n)
     call-anew-any n h = calling (callAnew n .node) h
 
-    pub wake-ask-any : (state : State) (caller : Bool) (n : Node) → n .permission ≡ permitted → P (wakeAskBy state caller n)
-    wake-ask-any State.Normal caller n h = by-test P (n .error) (λ e. call-anew-any n h) (λ e. quietly n h)
-    wake-ask-any State.Standby true n h = quietly _ h
-    wake-ask-any State.Standby false n h = calling _ h
-    wake-ask-any State.Sleep caller n h = calling _ h
+    pub wake-ask-any : (sleeps : Bool) (state : State) (caller : Bool) (n : Node) → n .permission ≡ permitted → P (wakeAskBy sleeps state caller n)
+    wake-ask-any sleeps State.Normal caller n h = by-test P (sleeps && n .error) (λ e. call-anew-any n h) (λ e. quietly n h)
+    wake-ask-any sleeps State.Standby true n h = quietly _ h
+    wake-ask-any sleeps State.Standby false n h = calling _ h
+    wake-ask-any sleeps State.Sleep caller n h = calling _ h
 
 -- what holds where the node sends a row of its own
 abbrev pub OnSending : (Reply → Type 0) → ℕ → Lookup → Node → Type 0
@@ -100,12 +101,15 @@ pub any-row : (P : Reply → Type 0) (me : ℕ) (row : Lookup) (m : Node) → ((
 any-row P me Lookup.Missing m h = tt
 any-row P me (Lookup.Found row) m h = λ e. h (row .reqid)
 
--- what holds of each refusal holds of what needs Normal, and of a request and an ask to send where it holds of what they do
+-- what holds of each refusal holds of what needs Normal, and of a sleep message, a request and an ask to send where it holds of what they do
 module _ (P : Reply → Type 0) (n : Node) (refused : (number : ℕ) → P (refuse n number)) where
-  pub in-normal : (state : State) (r : Reply) → P r → P (inNormal state n r)
+  in-normal : (state : State) (r : Reply) → P r → P (inNormal state n r)
   in-normal State.Normal r h = h
   in-normal State.Standby r h = refused 16
   in-normal State.Sleep r h = refused 16
+
+  pub sleep-message-any : (sleeps : Bool) → P (silent (withDelay (Delay.On 0) n)) → P (sleepMessageStep sleeps n)
+  sleep-message-any sleeps h = in-normal (n .state) _ (by-test P sleeps (λ e. h) (λ e. refused 25))
 
   request-row : (me : ℕ) (row : Lookup) → P (silent (withHeard n)) → OnSending P me row (withHeard n) → P (requestRow me row n)
   request-row me Lookup.Missing heard sends = refused 12

@@ -58,16 +58,16 @@ standby-tells t k n false h o =
     by-test (λ (r : Reply). Tells n ((false ≡ false) × (suc k ≤ t .recovery)) (λ count. ⊥) (r .command)) (ltb (n .standby + 1) (t .space)) (λ l. tt) (λ l. tt)
 
 -- a tick's pulse is a caller's second, in the first R of the ticks without clock
-pub tick-tells : (t : Times) (k : ℕ) (clock : Bool) (n : Node) (state : State) → ErrorShows t (split n state (n .caller) (n .delay))
+pub tick-tells : (sleeps : Bool) (t : Times) (k : ℕ) (clock : Bool) (n : Node) (state : State) → ErrorShows t (split n state (n .caller) (n .delay))
     → ClockOff t k (split n state (n .caller) (n .delay))
-    → Tells n ((clock ≡ false) × (suc k ≤ t .recovery)) (λ count. ⊥) (tickStep t clock (split n state (n .caller) (n .delay)) .command)
-tick-tells t k clock n State.Normal h o =
-    normal-any (λ (r : Reply). Tells n ((clock ≡ false) × (suc k ≤ t .recovery)) (λ count. ⊥) (r .command)) (n .permission) (λ m e. tt) t clock (n .delay)
+    → Tells n ((clock ≡ false) × (suc k ≤ t .recovery)) (λ count. ⊥) (tickStep sleeps t clock (split n state (n .caller) (n .delay)) .command)
+tick-tells sleeps t k clock n State.Normal h o =
+    normal-any (λ (r : Reply). Tells n ((clock ≡ false) × (suc k ≤ t .recovery)) (λ count. ⊥) (r .command)) (n .permission) (λ m e. tt) sleeps t clock (n .delay)
     (split n State.Normal (n .caller) (n .delay)) refl
-tick-tells t k true n State.Standby h o = tt
-tick-tells t k false n State.Standby h o = standby-tells t k n (n .caller) h o
-tick-tells t k true n State.Sleep h o = tt
-tick-tells t k false n State.Sleep h o = tt
+tick-tells sleeps t k true n State.Standby h o = tt
+tick-tells sleeps t k false n State.Standby h o = standby-tells t k n (n .caller) h o
+tick-tells sleeps t k true n State.Sleep h o = tt
+tick-tells sleeps t k false n State.Sleep h o = tt
 
 pub request-tells : (me : ℕ) (row : Lookup) (n : Node) → Tells n ⊥ (ownRow me row n) (requestStep me row n .command)
 request-tells me row n =

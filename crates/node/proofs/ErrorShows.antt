@@ -1,7 +1,7 @@
 -- Where the error of a node shows in a run from power-on: less than its range allows.
 use Prim.Native.Nat.{ℕ, _+_, _*_}
 use mathlib.Core.Path.{_≡_, refl}
-use mathlib.Core.Bool.{Bool, true, false}
+use mathlib.Core.Bool.{Bool, true, false, _&&_}
 use lib.Dec.{ltb, eqb}
 use native.Mathlib.Omega.{arith}
 use borrow.Author.Tests.{ltb-true}
@@ -34,27 +34,27 @@ module _ (t : Times) where
   abbrev Kept : Reply → Type 0
   Kept r = ErrorShows t (r .node)
 
-  normal-shows : (clock : Bool) (n : Node) (caller : Bool) (delay : Delay) → Kept (awakeTick (t .quiet) clock (split n State.Normal caller delay))
-  normal-shows true n caller delay = λ e. no-way e
-  normal-shows false n caller delay =
-      by-test Kept (ltb (n .quiet + 1) (t .quiet)) (λ l e. tt) (λ l. by-test Kept (n .permission) (λ y e. no-way e) (λ y e. tt))
+  normal-shows : (sleeps clock : Bool) (n : Node) (caller : Bool) (delay : Delay) → Kept (awakeTick sleeps (t .quiet) clock (split n State.Normal caller delay))
+  normal-shows sleeps true n caller delay = λ e. no-way e
+  normal-shows sleeps false n caller delay =
+      by-test Kept (ltb (n .quiet + 1) (t .quiet)) (λ l e. tt) (λ l. by-test Kept (sleeps && n .permission) (λ y e. no-way e) (λ y e. tt))
 
-  pub tick-shows : (clock : Bool) (n : Node) (state : State) (caller : Bool) (delay : Delay)
-      → ErrorShows t (split n state caller delay) → Kept (tickStep t clock (split n state caller delay))
-  tick-shows clock n State.Normal caller Delay.Off h = normal-shows clock n caller Delay.Off
-  tick-shows clock n State.Normal caller (Delay.On ticks) h =
-      by-test Kept (ltb (ticks + 1) (t .sleep)) (λ l. normal-shows clock n caller (Delay.On (ticks + 1))) (λ l e. no-way e)
-  tick-shows true n State.Standby caller delay h = λ e. no-way e
-  tick-shows false n State.Standby true delay h =
+  pub tick-shows : (sleeps clock : Bool) (n : Node) (state : State) (caller : Bool) (delay : Delay)
+      → ErrorShows t (split n state caller delay) → Kept (tickStep sleeps t clock (split n state caller delay))
+  tick-shows sleeps clock n State.Normal caller Delay.Off h = normal-shows sleeps clock n caller Delay.Off
+  tick-shows sleeps clock n State.Normal caller (Delay.On ticks) h =
+      by-test Kept (ltb (ticks + 1) (t .sleep)) (λ l. normal-shows sleeps clock n caller (Delay.On (ticks + 1))) (λ l e. no-way e)
+  tick-shows sleeps true n State.Standby caller delay h = λ e. no-way e
+  tick-shows sleeps false n State.Standby true delay h =
       by-test Kept (ltb (n .standby + 1) (2 * t .recovery))
       (λ l. by-test Kept (eqb (n .standby + 1) (t .recovery)) (λ q. up l) (λ q. up l))
       (λ l. by-test Kept (n .permission) (λ y e. no-way e) (λ y e. refl))
     where
       up : ltb (n .standby + 1) (2 * t .recovery) ≡ true → n .error ≡ true → n .standby + 1 ≡ 2 * t .recovery
       up l e = let g = h e in omega (arith, ltb-true (n .standby + 1) (2 * t .recovery) l)
-  tick-shows false n State.Standby false delay h = by-test Kept (ltb (n .standby + 1) (t .space)) (λ l. h) (λ l e. no-way e)
-  tick-shows true n State.Sleep caller delay h = h
-  tick-shows false n State.Sleep caller delay h = h
+  tick-shows sleeps false n State.Standby false delay h = by-test Kept (ltb (n .standby + 1) (t .space)) (λ l. h) (λ l e. no-way e)
+  tick-shows sleeps true n State.Sleep caller delay h = h
+  tick-shows sleeps false n State.Sleep caller delay h = h
 
   pub pulse-shows : (n : Node) (state : State) → ErrorShows t (split n state (n .caller) (n .delay)) → Kept (pulseStep (split n state (n .caller) (n .delay)))
   pulse-shows n State.Normal h = h
@@ -64,11 +64,11 @@ module _ (t : Times) where
   call-anew-shows : (n : Node) → Kept (callAnew n)
   call-anew-shows n = λ e. no-way e
 
-  pub wake-ask-shows : (n : Node) (state : State) (caller : Bool) → ErrorShows t (split n state caller (n .delay)) → Kept (wakeAskStep (split n state caller (n .delay)))
-  wake-ask-shows n State.Normal caller h = by-test Kept (n .error) (λ x. call-anew-shows (withWake (split n State.Normal caller (n .delay)))) (λ x. h)
-  wake-ask-shows n State.Standby true h = h
-  wake-ask-shows n State.Standby false h = λ e. absurd (h e)
-  wake-ask-shows n State.Sleep caller h = λ e. absurd (h e)
+  pub wake-ask-shows : (sleeps : Bool) (n : Node) (state : State) (caller : Bool) → ErrorShows t (split n state caller (n .delay)) → Kept (wakeAskStep sleeps (split n state caller (n .delay)))
+  wake-ask-shows sleeps n State.Normal caller h = by-test Kept (sleeps && n .error) (λ x. call-anew-shows (withWake (split n State.Normal caller (n .delay)))) (λ x. h)
+  wake-ask-shows sleeps n State.Standby true h = h
+  wake-ask-shows sleeps n State.Standby false h = λ e. absurd (h e)
+  wake-ask-shows sleeps n State.Sleep caller h = λ e. absurd (h e)
 
-  pub permission-shows : (permitted : Bool) (n : Node) → ErrorShows t n → Kept (permissionStep permitted n)
-  permission-shows permitted n h = by-test Kept permitted (λ y. by-test Kept (n .error) (λ x e. no-way e) (λ x. h)) (λ y. h)
+  pub permission-shows : (sleeps permitted : Bool) (n : Node) → ErrorShows t n → Kept (permissionStep sleeps permitted n)
+  permission-shows sleeps permitted n h = by-test Kept permitted (λ y. by-test Kept (sleeps && n .error) (λ x e. no-way e) (λ x. h)) (λ y. h)

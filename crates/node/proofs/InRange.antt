@@ -1,7 +1,7 @@
 -- From a state in range, under an accepted plan, every step gives a state in range.
 use Prim.Native.Nat.{ℕ, _+_, _*_, _≤_, _<_}
 use mathlib.Core.Path.{_≡_, refl}
-use mathlib.Core.Bool.{Bool, true, false, _&&_}
+use mathlib.Core.Bool.{Bool, true, false, _&&_, _||_}
 use mathlib.Core.List.{List}
 use lib.Dec.{leb, ltb, eqb}
 use lib.ListN.{getD, set, replicate}
@@ -16,6 +16,7 @@ use Rattle.machine.proofs.CountTables.{counts-set}
 use Rattle.plan.specs.declared.Times.{Times}
 use Rattle.plan.specs.declared.Lookup.{Lookup}
 use Rattle.plan.specs.declared.Plan.{Plan}
+use Rattle.plan.specs.Profile.{sleeps}
 use Rattle.plan.specs.Rules.{planRefusal}
 use Rattle.plan.specs.Answers.{isPolled}
 use Rattle.plan.specs.Find.{findRow}
@@ -24,35 +25,55 @@ use Rattle.node.specs.declared.Delay.{Delay}
 use Rattle.node.specs.declared.Node.{Node}
 use Rattle.node.specs.declared.Event.{Event}
 use Rattle.node.specs.declared.Reply.{Reply}
-use Rattle.node.specs.Changes.{asleep, powerOn, toStandby, withPermission, withWake, withHeard, withDelay, withStandby, nextCount, silent}
-use Rattle.node.specs.Range.{delayRight, standbyRight, inRange}
+use Rattle.node.specs.Changes.{asleep, powerOn, toNormal, toStandby, withPermission, withWake, withHeard, withDelay, withStandby, nextCount}
+use Rattle.node.specs.Range.{delayRight, standbyRight, isAwake, inRange}
 use Rattle.node.specs.Ticks.{quietTick, awakeTick, normalBy, callerTick, listenerTick, standbyTick, tickBy, tickStep}
 use Rattle.node.specs.Waking.{pulseBy, callAnew, wakeAskBy, wakeAskStep, permissionStep}
 use Rattle.node.specs.Sending.{sleepMessageStep, sendStep, requestStep, sendAskStep}
 use Rattle.node.specs.Step.{eventRight, act, nodeStep}
-use Rattle.node.proofs.Cases.{any-row, in-normal, request-any, send-ask-any}
+use Rattle.node.proofs.Cases.{any-row, sleep-message-any, request-any, send-ask-any}
+use Rattle.node.proofs.Awake.{Awake, step-awake}
 
--- what a state in range keeps
+-- what a state in range keeps, whether machines sleep or not
 pub record Fits (t : Times) (n : Node) : Type 0 where
   pub quiet : n .quiet ≤ t .quiet
   pub delay : delayRight (t .sleep) (n .delay) ≡ true
   pub standby : standbyRight t (n .state) (n .caller) (n .standby) ≡ true
   pub counts : countsBelow 4 (n .counts) ≡ true
 
-pub fits : (t : Times) (n : Node) → inRange t n ≡ true → Fits t n
+pub fits : (sleeps : Bool) (t : Times) (n : Node) → inRange sleeps t n ≡ true → Fits t n
 unfolding inRange
-fits t n e =
+fits sleeps t n e =
+    let w = sleeps || isAwake (n .state) (n .delay) in
     let q = leb (n .quiet) (t .quiet) in
     let d = delayRight (t .sleep) (n .delay) in
     let s = standbyRight t (n .state) (n .caller) (n .standby) in
     let c = countsBelow 4 (n .counts) in
-    let qds = and-l (q && d && s) c e in
-    let qd = and-l (q && d) s qds in
-    record { quiet = leb-true _ _ (and-l q d qd); delay = and-r q d qd; standby = and-r (q && d) s qds; counts = and-r (q && d && s) c e }
+    let qds = and-l (w && q && d && s) c e in
+    let qd = and-l (w && q && d) s qds in
+    let wq = and-l (w && q) d qd in
+    record { quiet = leb-true _ _ (and-r w q wq); delay = and-r (w && q) d qd; standby = and-r (w && q && d) s qds; counts = and-r (w && q && d && s) c e }
 
-pub in-range : (t : Times) (n : Node) → Fits t n → inRange t n ≡ true
+-- and where they do not
+pub awake : (t : Times) (n : Node) → inRange false t n ≡ true → Awake n
 unfolding inRange
-in-range t n f = rw (le-leb _ _ (f .quiet), f .delay, f .standby, f .counts)
+awake t n e =
+    let w = isAwake (n .state) (n .delay) in
+    let q = leb (n .quiet) (t .quiet) in
+    let d = delayRight (t .sleep) (n .delay) in
+    let s = standbyRight t (n .state) (n .caller) (n .standby) in
+    let c = countsBelow 4 (n .counts) in
+    and-l w q (and-l (w && q) d (and-l (w && q && d) s (and-l (w && q && d && s) c e)))
+
+-- a state is Awake unless machines sleep
+abbrev AwakeUnless : Bool → Node → Type 0
+AwakeUnless true n = Unit {0}
+AwakeUnless false n = Awake n
+
+pub in-range : (sleeps : Bool) (t : Times) (n : Node) → AwakeUnless sleeps n → Fits t n → inRange sleeps t n ≡ true
+unfolding inRange
+in-range true t n a f = rw (le-leb _ _ (f .quiet), f .delay, f .standby, f .counts)
+in-range false t n a f = rw (a, le-leb _ _ (f .quiet), f .delay, f .standby, f .counts)
 
 no-counts : countsBelow 4 (replicate 128 0) ≡ true
 unfolding countsBelow allTo
@@ -68,6 +89,9 @@ module _ (t : Times) where
   pub asleep-fits : (permitted : Bool) → Fits t (asleep permitted)
   asleep-fits permitted = record { quiet = omega arith; delay = refl; standby = refl; counts = no-counts }
 
+  pub awake-fits-new : Fits t (toNormal (asleep false))
+  awake-fits-new = record { quiet = omega arith; delay = refl; standby = refl; counts = no-counts }
+
   module _ (a : TimesFit t) where
     standby-fits : (n : Node) (caller : Bool) → Fits t n → Fits t (toStandby n caller)
     standby-fits n caller f = record { quiet = f .quiet; delay = f .delay; standby = zero-fits caller; counts = f .counts }
@@ -76,23 +100,23 @@ module _ (t : Times) where
         zero-fits true = le-leb 0 (2 * t .recovery) (omega arith)
         zero-fits false = lt-ltb 0 (t .space) (omega (arith, a .space .least))
 
-    quiet-fits : (n : Node) → Fits t n → Fits t (quietTick (t .quiet) n .node)
-    quiet-fits n f =
+    quiet-fits : (sleeps : Bool) (n : Node) → Fits t n → Fits t (quietTick sleeps (t .quiet) n .node)
+    quiet-fits sleeps n f =
         by-test (λ (r : Reply). Fits t (r .node)) (ltb (n .quiet + 1) (t .quiet))
         (λ l. record { quiet = omega (arith, ltb-true (n .quiet + 1) (t .quiet) l); delay = f .delay; standby = f .standby; counts = f .counts })
-        (λ l. by-test (λ (r : Reply). Fits t (r .node)) (n .permission)
+        (λ l. by-test (λ (r : Reply). Fits t (r .node)) (sleeps && n .permission)
         (λ y. asleep-fits (n .permission))
         (λ y. record { quiet = omega arith; delay = f .delay; standby = f .standby; counts = f .counts }))
 
-    awake-fits : (clock : Bool) (n : Node) → Fits t n → Fits t (awakeTick (t .quiet) clock n .node)
-    awake-fits true n f = record { quiet = omega arith; delay = f .delay; standby = f .standby; counts = f .counts }
-    awake-fits false n f = quiet-fits n f
+    awake-fits : (sleeps clock : Bool) (n : Node) → Fits t n → Fits t (awakeTick sleeps (t .quiet) clock n .node)
+    awake-fits sleeps true n f = record { quiet = omega arith; delay = f .delay; standby = f .standby; counts = f .counts }
+    awake-fits sleeps false n f = quiet-fits sleeps n f
 
-    normal-fits : (clock : Bool) (d : Delay) (n : Node) → Fits t n → Fits t (normalBy t clock d n .node)
-    normal-fits clock Delay.Off n f = awake-fits clock n f
-    normal-fits clock (Delay.On ticks) n f =
+    normal-fits : (sleeps clock : Bool) (d : Delay) (n : Node) → Fits t n → Fits t (normalBy sleeps t clock d n .node)
+    normal-fits sleeps clock Delay.Off n f = awake-fits sleeps clock n f
+    normal-fits sleeps clock (Delay.On ticks) n f =
         by-test (λ (r : Reply). Fits t (r .node)) (ltb (ticks + 1) (t .sleep))
-        (λ l. awake-fits clock (withDelay (Delay.On (ticks + 1)) n) (record { quiet = f .quiet; delay = l; standby = f .standby; counts = f .counts }))
+        (λ l. awake-fits sleeps clock (withDelay (Delay.On (ticks + 1)) n) (record { quiet = f .quiet; delay = l; standby = f .standby; counts = f .counts }))
         (λ l. asleep-fits (n .permission))
 
     -- the count of a node in Standby goes up
@@ -120,11 +144,11 @@ module _ (t : Times) where
       standby-tick-fits : Fits t (standbyTick t n .node)
       standby-tick-fits = by-test (λ (r : Reply). Fits t (r .node)) (n .caller) caller-fits listener-fits
 
-    pub tick-fits : (clock : Bool) (n : Node) → Fits t n → Fits t (tickStep t clock n .node)
-    tick-fits clock n f = go (n .state) refl
+    pub tick-fits : (sleeps clock : Bool) (n : Node) → Fits t n → Fits t (tickStep sleeps t clock n .node)
+    tick-fits sleeps clock n f = go (n .state) refl
       where
-        go : (s : State) → n .state ≡ s → Fits t (tickBy t clock s n .node)
-        go State.Normal e = normal-fits clock (n .delay) n f
+        go : (s : State) → n .state ≡ s → Fits t (tickBy sleeps t clock s n .node)
+        go State.Normal e = normal-fits sleeps clock (n .delay) n f
         go State.Standby e =
             by-test (λ (r : Reply). Fits t (r .node)) clock
             (λ k. record { quiet = omega arith; delay = refl; standby = refl; counts = no-counts })
@@ -139,27 +163,27 @@ module _ (t : Times) where
     call-anew-fits : (n : Node) → Fits t n → Fits t (callAnew n .node)
     call-anew-fits n f = record { quiet = omega arith; delay = refl; standby = le-leb 0 (2 * t .recovery) (omega arith); counts = f .counts }
 
-    pub wake-ask-fits : (n : Node) → Fits t n → Fits t (wakeAskStep n .node)
-    wake-ask-fits n f = go (n .state) (n .caller) (withWake n) (record { quiet = f .quiet; delay = f .delay; standby = f .standby; counts = f .counts })
+    pub wake-ask-fits : (sleeps : Bool) (n : Node) → Fits t n → Fits t (wakeAskStep sleeps n .node)
+    wake-ask-fits sleeps n f = go (n .state) (n .caller) (withWake n) (record { quiet = f .quiet; delay = f .delay; standby = f .standby; counts = f .counts })
       where
-        go : (s : State) (caller : Bool) (n : Node) → Fits t n → Fits t (wakeAskBy s caller n .node)
-        go State.Normal caller n f = by-test (λ (r : Reply). Fits t (r .node)) (n .error) (λ e. call-anew-fits n f) (λ e. f)
+        go : (s : State) (caller : Bool) (n : Node) → Fits t n → Fits t (wakeAskBy sleeps s caller n .node)
+        go State.Normal caller n f = by-test (λ (r : Reply). Fits t (r .node)) (sleeps && n .error) (λ e. call-anew-fits n f) (λ e. f)
         go State.Standby true n f = f
         go State.Standby false n f = standby-fits n true f
         go State.Sleep caller n f = standby-fits n true f
 
-    pub permission-fits : (permitted : Bool) (n : Node) → Fits t n → Fits t (permissionStep permitted n .node)
-    permission-fits permitted n f =
+    pub permission-fits : (sleeps permitted : Bool) (n : Node) → Fits t n → Fits t (permissionStep sleeps permitted n .node)
+    permission-fits sleeps permitted n f =
         by-test (λ (r : Reply). Fits t (r .node)) permitted
-        (λ y. by-test (λ (r : Reply). Fits t (r .node)) (n .error) (λ e. asleep-fits permitted) (λ e. set-fits))
+        (λ y. by-test (λ (r : Reply). Fits t (r .node)) (sleeps && n .error) (λ e. asleep-fits permitted) (λ e. set-fits))
         (λ y. set-fits)
       where
         set-fits : Fits t (withPermission permitted n)
         set-fits = record { quiet = f .quiet; delay = f .delay; standby = f .standby; counts = f .counts }
 
-    pub sleep-message-fits : (n : Node) → Fits t n → Fits t (sleepMessageStep n .node)
-    sleep-message-fits n f =
-        in-normal (λ (r : Reply). Fits t (r .node)) n (λ number. f) (n .state) (silent (withDelay (Delay.On 0) n))
+    pub sleep-message-fits : (sleeps : Bool) (n : Node) → Fits t n → Fits t (sleepMessageStep sleeps n .node)
+    sleep-message-fits sleeps n f =
+        sleep-message-any (λ (r : Reply). Fits t (r .node)) n (λ number. f) sleeps
         (record { quiet = f .quiet; delay = lt-ltb 0 (t .sleep) (omega (arith, a .sleep .least)); standby = f .standby; counts = f .counts })
 
     heard-fits : (n : Node) → Fits t n → Fits t (withHeard n)
@@ -185,27 +209,33 @@ act-fits p ok me n e f = go e
     a = times-fit (p .times) (accepted p ok .times)
 
     go : (e : Event) → Fits (p .times) (act p me n e .node)
-    go (Event.Tick clock) = tick-fits (p .times) a clock n f
+    go (Event.Tick clock) = tick-fits (p .times) a (sleeps p) clock n f
     go Event.Pulse = pulse-fits (p .times) a (n .state) n f
-    go Event.WakeAsk = wake-ask-fits (p .times) a n f
-    go (Event.Permission permitted) = permission-fits (p .times) a permitted n f
-    go Event.SleepMessage = sleep-message-fits (p .times) a n f
+    go Event.WakeAsk = wake-ask-fits (p .times) a (sleeps p) n f
+    go (Event.Permission permitted) = permission-fits (p .times) a (sleeps p) permitted n f
+    go Event.SleepMessage = sleep-message-fits (p .times) a (sleeps p) n f
     go (Event.Request reqid) = request-fits (p .times) a me (findRow p reqid) n f
     go (Event.SendAsk reqid) = send-ask-fits (p .times) a me (isPolled p me) (findRow p reqid) n f
 
 -- and so does every step
-pub range-kept : (p : Plan) → planRefusal p ≡ 0 → (me : ℕ) (n : Node) (e : Event) → inRange (p .times) n ≡ true → inRange (p .times) (nodeStep p me n e .node) ≡ true
-range-kept p ok me n e r = in-range (p .times) _ (go (fits (p .times) n r))
+pub range-kept : (p : Plan) → planRefusal p ≡ 0 → (me : ℕ) (n : Node) (e : Event) → inRange (sleeps p) (p .times) n ≡ true
+    → inRange (sleeps p) (p .times) (nodeStep p me n e .node) ≡ true
+range-kept p ok me n e r = in-range (sleeps p) (p .times) _ (stays (sleeps p) refl r) (go (fits (sleeps p) (p .times) n r))
   where
+    stays : (s : Bool) → sleeps p ≡ s → inRange s (p .times) n ≡ true → AwakeUnless s (nodeStep p me n e .node)
+    stays true q r = tt
+    stays false q r = step-awake p me n e q (awake (p .times) n r)
+
     go : Fits (p .times) n → Fits (p .times) (nodeStep p me n e .node)
     go f =
         by-test (λ (r : Reply). Fits (p .times) (r .node)) (eqb (planRefusal p) 0)
         (λ q. by-test (λ (r : Reply). Fits (p .times) (r .node)) (ltb me (p .nodecount))
-        (λ q. by-test (λ (r : Reply). Fits (p .times) (r .node)) (inRange (p .times) n)
+        (λ q. by-test (λ (r : Reply). Fits (p .times) (r .node)) (inRange (sleeps p) (p .times) n)
         (λ q. by-test (λ (r : Reply). Fits (p .times) (r .node)) (eventRight e) (λ q. act-fits p ok me n e f) (λ q. f))
         (λ q. f))
         (λ q. f))
         (λ q. f)
 
-pub power-on-fits : (t : Times) → inRange t powerOn ≡ true
-power-on-fits t = in-range t powerOn (asleep-fits t false)
+pub power-on-fits : (sleeps : Bool) (t : Times) → inRange sleeps t (powerOn sleeps) ≡ true
+power-on-fits true t = in-range true t (powerOn true) tt (asleep-fits t false)
+power-on-fits false t = in-range false t (powerOn false) refl (awake-fits-new t)

@@ -1,3 +1,4 @@
+pub mod Awake
 pub mod Cases
 pub mod Commands
 pub mod ErrorShows

@@ -4,17 +4,17 @@ use mathlib.Core.Path.{_≡_, refl}
 use lib.Dec.{ltb, eqb}
 use Rattle.folds.proofs.Choices.{by-test}
 use Rattle.plan.specs.declared.Plan.{Plan}
+use Rattle.plan.specs.Profile.{sleeps}
 use Rattle.plan.specs.Rules.{planRefusal}
 use Rattle.plan.specs.Answers.{isPolled}
 use Rattle.plan.specs.Find.{findRow}
-use Rattle.node.specs.declared.Delay.{Delay}
 use Rattle.node.specs.declared.Node.{Node}
 use Rattle.node.specs.declared.Event.{Event}
 use Rattle.node.specs.declared.Reply.{Reply}
-use Rattle.node.specs.Changes.{withWake, withHeard, withDelay, silent, refuse}
+use Rattle.node.specs.Changes.{withWake, withHeard, refuse}
 use Rattle.node.specs.Range.{inRange}
 use Rattle.node.specs.Step.{eventRight, act, nodeStep}
-use Rattle.node.proofs.Cases.{tick-any, pulse-any, wake-ask-any, permission-any, any-row, in-normal, request-any, send-ask-any}
+use Rattle.node.proofs.Cases.{tick-any, pulse-any, wake-ask-any, permission-any, any-row, sleep-message-any, request-any, send-ask-any}
 
 -- a reply to a step of n: done, or refused with n as it was
 abbrev pub Plain : Node → Reply → Type 0
@@ -22,12 +22,12 @@ Plain n r = (r .refusal ≡ 0 → ⊥) → r ≡ refuse n (r .refusal)
 
 module _ (n : Node) where
   act-plain : (p : Plan) (me : ℕ) (e : Event) → Plain n (act p me n e)
-  act-plain p me (Event.Tick clock) = tick-any (Plain n) (n .permission) (λ m e h. absurd (h refl)) (λ m e h. absurd (h refl)) (p .times) clock (n .state) n refl
+  act-plain p me (Event.Tick clock) = tick-any (Plain n) (n .permission) (λ m e h. absurd (h refl)) (λ m e h. absurd (h refl)) (sleeps p) (p .times) clock (n .state) n refl
   act-plain p me Event.Pulse = pulse-any (Plain n) (n .permission) (λ m e h. absurd (h refl)) (n .state) n refl
   act-plain p me Event.WakeAsk =
-      wake-ask-any (Plain n) (n .permission) (λ m e h. absurd (h refl)) (λ m e h. absurd (h refl)) (n .state) (n .caller) (withWake n) refl
-  act-plain p me (Event.Permission permitted) = permission-any (Plain n) permitted (λ m e h. absurd (h refl)) n
-  act-plain p me Event.SleepMessage = in-normal (Plain n) n (λ number q. refl) (n .state) (silent (withDelay (Delay.On 0) n)) (λ h. absurd (h refl))
+      wake-ask-any (Plain n) (n .permission) (λ m e h. absurd (h refl)) (λ m e h. absurd (h refl)) (sleeps p) (n .state) (n .caller) (withWake n) refl
+  act-plain p me (Event.Permission permitted) = permission-any (Plain n) permitted (λ m e h. absurd (h refl)) (sleeps p) n
+  act-plain p me Event.SleepMessage = sleep-message-any (Plain n) n (λ number q. refl) (sleeps p) (λ h. absurd (h refl))
   act-plain p me (Event.Request reqid) =
       request-any (Plain n) n (λ number q. refl) me (findRow p reqid) (λ h. absurd (h refl)) (any-row (Plain n) me (findRow p reqid) (withHeard n) (λ reqid h. absurd (h refl)))
   act-plain p me (Event.SendAsk reqid) =
@@ -37,6 +37,6 @@ module _ (n : Node) where
   refused-same p me e =
       by-test (Plain n) (eqb (planRefusal p) 0)
       (λ a. by-test (Plain n) (ltb me (p .nodecount))
-      (λ b. by-test (Plain n) (inRange (p .times) n) (λ c. by-test (Plain n) (eventRight e) (λ d. act-plain p me e) (λ d q. refl)) (λ c q. refl))
+      (λ b. by-test (Plain n) (inRange (sleeps p) (p .times) n) (λ c. by-test (Plain n) (eventRight e) (λ d. act-plain p me e) (λ d q. refl)) (λ c q. refl))
       (λ b q. refl))
       (λ a q. refl)

@@ -11,12 +11,12 @@ use Rattle.plan.proofs.Accepted.{TimesFit}
 use Rattle.node.specs.declared.Delay.{Delay}
 use Rattle.node.specs.declared.Node.{Node}
 use Rattle.node.specs.declared.Reply.{Reply}
-use Rattle.node.specs.Changes.{powerOn, withWake, withDelay, silent}
+use Rattle.node.specs.Changes.{powerOn, withWake, withDelay}
 use Rattle.node.specs.Ticks.{tickStep}
 use Rattle.node.specs.Waking.{pulseStep, wakeAskStep, permissionStep}
 use Rattle.node.specs.Sending.{sleepMessageStep, requestStep, sendAskStep}
-use Rattle.node.proofs.Cases.{tick-any, pulse-any, wake-ask-any, permission-any, in-normal, request-keeps, send-ask-keeps}
-use Rattle.node.proofs.InRange.{Fits, asleep-fits, tick-fits, pulse-fits, wake-ask-fits, permission-fits, sleep-message-fits, request-fits, send-ask-fits}
+use Rattle.node.proofs.Cases.{tick-any, pulse-any, wake-ask-any, permission-any, sleep-message-any, request-keeps, send-ask-keeps}
+use Rattle.node.proofs.InRange.{Fits, asleep-fits, awake-fits-new, tick-fits, pulse-fits, wake-ask-fits, permission-fits, sleep-message-fits, request-fits, send-ask-fits}
 use Rattle.node.proofs.ErrorShows.{ErrorShows, tick-shows, pulse-shows, wake-ask-shows, permission-shows}
 use Rattle.node.proofs.WithClock.{ClockOn, on-none, on-tick, on-pulse, on-wake-ask, on-permission, on-long}
 use Rattle.node.proofs.WithoutClock.{ClockOff, off-none, off-tick, off-pulse, off-permission, off-long}
@@ -31,8 +31,9 @@ pub record InRun (t : Times) (permitted : Bool) (on off : ℕ) (n : Node) : Type
   pub dark : ClockOff t off n
 
 module _ (t : Times) where
-  pub run-power-on : InRun t false 0 0 powerOn
-  run-power-on = record { permission = refl; fits = asleep-fits t false; shows = λ e. no-way e; lit = on-none t powerOn; dark = off-none t powerOn }
+  pub run-power-on : (sleeps : Bool) → InRun t false 0 0 (powerOn sleeps)
+  run-power-on true = record { permission = refl; fits = asleep-fits t false; shows = λ e. no-way e; lit = on-none t (powerOn true); dark = off-none t (powerOn true) }
+  run-power-on false = record { permission = refl; fits = awake-fits-new t; shows = λ e. no-way e; lit = on-none t (powerOn false); dark = off-none t (powerOn false) }
 
   module _ (permitted : Bool) (on off : ℕ) (n : Node) (s : InRun t permitted on off n) where
     -- 0 ticks say nothing: another's ask to wake
@@ -47,21 +48,21 @@ module _ (t : Times) where
     pub run-off-long : 1 ≤ t .quiet → t .quiet ≤ off → 2 * t .recovery ≤ off → t .recovery + t .space ≤ off → n .error ≡ false → n .state ≡ State.Sleep
     run-off-long one quiet recovery space = off-long t off n one quiet recovery space (s .fits .standby) (s .dark)
 
-    module _ (a : TimesFit t) where
-      tick-lit : (clock : Bool) → ClockOn t (pick clock (suc on) 0) (tickStep t clock n .node)
-      tick-lit true = on-tick t on n (n .state) (n .delay) (s .fits .delay) (s .shows) (s .lit)
-      tick-lit false = on-none t (tickStep t false n .node)
+    module _ (sleeps : Bool) (a : TimesFit t) where
+      tick-lit : (clock : Bool) → ClockOn t (pick clock (suc on) 0) (tickStep sleeps t clock n .node)
+      tick-lit true = on-tick t on sleeps n (n .state) (n .delay) (s .fits .delay) (s .shows) (s .lit)
+      tick-lit false = on-none t (tickStep sleeps t false n .node)
 
-      tick-dark : (clock : Bool) → ClockOff t (pick clock 0 (suc off)) (tickStep t clock n .node)
-      tick-dark true = off-none t (tickStep t true n .node)
-      tick-dark false = off-tick t off n (n .state) (n .caller) (n .delay) (s .dark)
+      tick-dark : (clock : Bool) → ClockOff t (pick clock 0 (suc off)) (tickStep sleeps t clock n .node)
+      tick-dark true = off-none t (tickStep sleeps t true n .node)
+      tick-dark false = off-tick t off sleeps n (n .state) (n .caller) (n .delay) (s .dark)
 
-      pub run-tick : (clock : Bool) → InRun t permitted (pick clock (suc on) 0) (pick clock 0 (suc off)) (tickStep t clock n .node)
+      pub run-tick : (clock : Bool) → InRun t permitted (pick clock (suc on) 0) (pick clock 0 (suc off)) (tickStep sleeps t clock n .node)
       run-tick clock =
           record {
-            permission = tick-any (λ (r : Reply). r .node .permission ≡ permitted) permitted (λ m h. h) (λ m h. h) t clock (n .state) n (s .permission);
-            fits = tick-fits t a clock n (s .fits);
-            shows = tick-shows t clock n (n .state) (n .caller) (n .delay) (s .shows);
+            permission = tick-any (λ (r : Reply). r .node .permission ≡ permitted) permitted (λ m h. h) (λ m h. h) sleeps t clock (n .state) n (s .permission);
+            fits = tick-fits t a sleeps clock n (s .fits);
+            shows = tick-shows t sleeps clock n (n .state) (n .caller) (n .delay) (s .shows);
             lit = tick-lit clock;
             dark = tick-dark clock;
           }
@@ -76,25 +77,25 @@ module _ (t : Times) where
             dark = off-pulse t off n (n .state) l (s .dark);
           }
 
-      pub run-wake-ask : InRun t permitted on 0 (wakeAskStep n .node)
+      pub run-wake-ask : InRun t permitted on 0 (wakeAskStep sleeps n .node)
       run-wake-ask =
           record {
             permission =
-                wake-ask-any (λ (r : Reply). r .node .permission ≡ permitted) permitted (λ m h. h) (λ m h. h) (n .state) (n .caller) (withWake n) (s .permission);
-            fits = wake-ask-fits t a n (s .fits);
-            shows = wake-ask-shows t n (n .state) (n .caller) (s .shows);
-            lit = on-wake-ask t on n (n .state) (n .caller) (s .lit);
-            dark = off-none t (wakeAskStep n .node);
+                wake-ask-any (λ (r : Reply). r .node .permission ≡ permitted) permitted (λ m h. h) (λ m h. h) sleeps (n .state) (n .caller) (withWake n) (s .permission);
+            fits = wake-ask-fits t a sleeps n (s .fits);
+            shows = wake-ask-shows t sleeps n (n .state) (n .caller) (s .shows);
+            lit = on-wake-ask t on sleeps n (n .state) (n .caller) (s .lit);
+            dark = off-none t (wakeAskStep sleeps n .node);
           }
 
-      pub run-permission : (word : Bool) → InRun t word on off (permissionStep word n .node)
+      pub run-permission : (word : Bool) → InRun t word on off (permissionStep sleeps word n .node)
       run-permission word =
           record {
-            permission = permission-any (λ (r : Reply). r .node .permission ≡ word) word (λ m h. h) n;
-            fits = permission-fits t a word n (s .fits);
-            shows = permission-shows t word n (s .shows);
-            lit = on-permission t on word n (s .lit);
-            dark = off-permission t off word n (s .dark);
+            permission = permission-any (λ (r : Reply). r .node .permission ≡ word) word (λ m h. h) sleeps n;
+            fits = permission-fits t a sleeps word n (s .fits);
+            shows = permission-shows t sleeps word n (s .shows);
+            lit = on-permission t on sleeps word n (s .lit);
+            dark = off-permission t off sleeps word n (s .dark);
           }
 
       -- all but the range, which alone reads the counts
@@ -104,10 +105,10 @@ module _ (t : Times) where
       whole : (k : ℕ) (m : Node) → Fits t m → Rest k m → InRun t permitted k off m
       whole k m f r = record { permission = r .0; fits = f; shows = r .1; lit = r .2; dark = r .3 }
 
-      pub run-sleep-message : InRun t permitted 0 off (sleepMessageStep n .node)
+      pub run-sleep-message : InRun t permitted 0 off (sleepMessageStep sleeps n .node)
       run-sleep-message =
-          whole 0 (sleepMessageStep n .node) (sleep-message-fits t a n (s .fits))
-          (in-normal (λ (r : Reply). Rest 0 (r .node)) n (λ number. (s .permission, s .shows, on-none t n, s .dark)) (n .state) (silent started)
+          whole 0 (sleepMessageStep sleeps n .node) (sleep-message-fits t a sleeps n (s .fits))
+          (sleep-message-any (λ (r : Reply). Rest 0 (r .node)) n (λ number. (s .permission, s .shows, on-none t n, s .dark)) sleeps
           (s .permission, s .shows, on-none t started, s .dark))
         where
           started : Node

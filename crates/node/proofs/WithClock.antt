@@ -1,10 +1,11 @@
 -- A node under a clock that stays on: Normal without error once it was on for S + 2 ticks.
 use Prim.Native.Nat.{ℕ, zero, suc, _+_, _≤_}
 use mathlib.Core.Path.{_≡_, refl, sym, _∙_}
-use mathlib.Core.Bool.{Bool, true, false}
+use mathlib.Core.Bool.{Bool, true, false, _&&_}
 use lib.Dec.{ltb}
 use native.Mathlib.Omega.{arith}
 use borrow.Author.Tests.{ltb-true}
+use Rattle.folds.proofs.AllAny.{and-r}
 use Rattle.folds.proofs.Choices.{by-test, no-way}
 use Rattle.machine.specs.declared.State.{State}
 use Rattle.plan.specs.declared.Times.{Times}
@@ -42,15 +43,15 @@ module _ (t : Times) where
     abbrev Kept : Reply → Type 0
     Kept r = ClockOn t k (r .node)
 
-    pub on-tick : (n : Node) (state : State) (delay : Delay) → delayRight (t .sleep) delay ≡ true → ErrorShows t (split n state (n .caller) delay)
-        → ClockOn t k (split n state (n .caller) delay) → ClockOn t (suc k) (tickStep t true (split n state (n .caller) delay) .node)
-    on-tick n State.Normal Delay.Off d h o = (λ l. refl, tt)
-    on-tick n State.Normal (Delay.On ticks) d h o =
+    pub on-tick : (sleeps : Bool) (n : Node) (state : State) (delay : Delay) → delayRight (t .sleep) delay ≡ true → ErrorShows t (split n state (n .caller) delay)
+        → ClockOn t k (split n state (n .caller) delay) → ClockOn t (suc k) (tickStep sleeps t true (split n state (n .caller) delay) .node)
+    on-tick sleeps n State.Normal Delay.Off d h o = (λ l. refl, tt)
+    on-tick sleeps n State.Normal (Delay.On ticks) d h o =
         by-test (λ (r : Reply). ClockOn t (suc k) (r .node)) (ltb (ticks + 1) (t .sleep))
         (λ l. (λ l. refl, omega arith))
         (λ l. (λ l. refl, omega (arith, ltb-true ticks (t .sleep) d)))
-    on-tick n State.Standby delay d h o = (λ l. refl, tt)
-    on-tick n State.Sleep delay d h o = (λ l. unshown (n .error) h, omega arith)
+    on-tick sleeps n State.Standby delay d h o = (λ l. refl, tt)
+    on-tick sleeps n State.Sleep delay d h o = (λ l. unshown (n .error) h, omega arith)
 
     pub on-pulse : (n : Node) (state : State) → ClockOn t k (split n state (n .caller) (n .delay)) → Kept (pulseStep (split n state (n .caller) (n .delay)))
     on-pulse n State.Normal o = o
@@ -66,16 +67,17 @@ module _ (t : Times) where
         go (suc k) f = no-way (sym (f (omega arith)) ∙ x)
 
     -- so an ask to wake does not lead out of Normal ..
-    pub on-wake-ask : (n : Node) (state : State) (caller : Bool) → ClockOn t k (split n state caller (n .delay)) → Kept (wakeAskStep (split n state caller (n .delay)))
-    on-wake-ask n State.Normal caller o = by-test Kept (n .error) (λ x. (λ l. refl, let g = unlit n (o .0) x in omega arith)) (λ x. o)
-    on-wake-ask n State.Standby true o = o
-    on-wake-ask n State.Standby false o = o
-    on-wake-ask n State.Sleep caller o = (o .0, omega arith)
+    pub on-wake-ask : (sleeps : Bool) (n : Node) (state : State) (caller : Bool) → ClockOn t k (split n state caller (n .delay)) → Kept (wakeAskStep sleeps (split n state caller (n .delay)))
+    on-wake-ask sleeps n State.Normal caller o =
+        by-test Kept (sleeps && n .error) (λ x. (λ l. refl, let g = unlit n (o .0) (and-r sleeps (n .error) x) in omega arith)) (λ x. o)
+    on-wake-ask sleeps n State.Standby true o = o
+    on-wake-ask sleeps n State.Standby false o = o
+    on-wake-ask sleeps n State.Sleep caller o = (o .0, omega arith)
 
     -- .. and a yes puts no node to sleep
-    pub on-permission : (permitted : Bool) (n : Node) → ClockOn t k n → ClockOn t k (permissionStep permitted n .node)
-    on-permission permitted n o =
-        by-test Kept permitted (λ y. by-test Kept (n .error) (λ x. (λ l. refl, unlit n (o .0) x)) (λ x. o)) (λ y. o)
+    pub on-permission : (sleeps permitted : Bool) (n : Node) → ClockOn t k n → ClockOn t k (permissionStep sleeps permitted n .node)
+    on-permission sleeps permitted n o =
+        by-test Kept permitted (λ y. by-test Kept (sleeps && n .error) (λ x. (λ l. refl, unlit n (o .0) (and-r sleeps (n .error) x))) (λ x. o)) (λ y. o)
 
     pub on-long : (n : Node) → t .sleep + 2 ≤ k → delayRight (t .sleep) (n .delay) ≡ true → ClockOn t k n
         → (n .state ≡ State.Normal) × (n .error ≡ false) × (n .delay ≡ Delay.Off)

@@ -1,7 +1,7 @@
 -- A node under a clock that stays off, with no ask to wake: asleep or in error once it was off for E, 2R and R + P ticks.
 use Prim.Native.Nat.{ℕ, suc, _+_, _*_, _≤_, _<_}
 use mathlib.Core.Path.{_≡_, refl, sym}
-use mathlib.Core.Bool.{Bool, true, false}
+use mathlib.Core.Bool.{Bool, true, false, _&&_}
 use lib.Dec.{ltb, eqb}
 use native.Mathlib.Omega.{arith}
 use borrow.Author.Tests.{ltb-true}
@@ -41,26 +41,26 @@ module _ (t : Times) where
     abbrev Later : Reply → Type 0
     Later r = ClockOff t (suc k) (r .node)
 
-    quiet-off : (n : Node) (caller : Bool) (delay : Delay) → ClockOff t k (split n State.Normal caller delay) → Later (quietTick (t .quiet) (split n State.Normal caller delay))
-    quiet-off n caller delay o =
+    quiet-off : (sleeps : Bool) (n : Node) (caller : Bool) (delay : Delay) → ClockOff t k (split n State.Normal caller delay) → Later (quietTick sleeps (t .quiet) (split n State.Normal caller delay))
+    quiet-off sleeps n caller delay o =
         by-test Later (ltb (n .quiet + 1) (t .quiet))
         (λ l e. let g = o e .0 in (omega arith, λ m. ltb-true (n .quiet + 1) (t .quiet) l))
-        (λ l. by-test Later (n .permission) (λ y. tt) (λ y e. no-way (sym e)))
+        (λ l. by-test Later (sleeps && n .permission) (λ y. tt) (λ y e. no-way (sym e)))
 
-    pub off-tick : (n : Node) (state : State) (caller : Bool) (delay : Delay)
-        → ClockOff t k (split n state caller delay) → Later (tickStep t false (split n state caller delay))
-    off-tick n State.Normal caller Delay.Off o = quiet-off n caller Delay.Off o
-    off-tick n State.Normal caller (Delay.On ticks) o =
-        by-test Later (ltb (ticks + 1) (t .sleep)) (λ l. quiet-off n caller (Delay.On (ticks + 1)) o) (λ l. tt)
-    off-tick n State.Standby true delay o =
+    pub off-tick : (sleeps : Bool) (n : Node) (state : State) (caller : Bool) (delay : Delay)
+        → ClockOff t k (split n state caller delay) → Later (tickStep sleeps t false (split n state caller delay))
+    off-tick sleeps n State.Normal caller Delay.Off o = quiet-off sleeps n caller Delay.Off o
+    off-tick sleeps n State.Normal caller (Delay.On ticks) o =
+        by-test Later (ltb (ticks + 1) (t .sleep)) (λ l. quiet-off sleeps n caller (Delay.On (ticks + 1)) o) (λ l. tt)
+    off-tick sleeps n State.Standby true delay o =
         by-test Later (ltb (n .standby + 1) (2 * t .recovery))
         (λ l. by-test Later (eqb (n .standby + 1) (t .recovery)) (λ q. up l) (λ q. up l))
         (λ l. by-test Later (n .permission) (λ y. tt) (λ y e. no-way (sym e)))
       where
         up : ltb (n .standby + 1) (2 * t .recovery) ≡ true → n .error ≡ false → (suc k ≤ n .standby + 1) × (1 ≤ suc k → n .standby + 1 < 2 * t .recovery)
         up l e = let g = o e .0 in (omega arith, λ m. ltb-true (n .standby + 1) (2 * t .recovery) l)
-    off-tick n State.Standby false delay o = by-test Later (ltb (n .standby + 1) (t .space)) (λ l. omega arith) (λ l. tt)
-    off-tick n State.Sleep caller delay o = tt
+    off-tick sleeps n State.Standby false delay o = by-test Later (ltb (n .standby + 1) (t .space)) (λ l. omega arith) (λ l. tt)
+    off-tick sleeps n State.Sleep caller delay o = tt
 
     -- a pulse that is heard came in the first R ticks
     pub off-pulse : (n : Node) (state : State) → k ≤ t .recovery → ClockOff t k (split n state (n .caller) (n .delay))
@@ -69,8 +69,8 @@ module _ (t : Times) where
     off-pulse n State.Standby l o = o
     off-pulse n State.Sleep l o = omega arith
 
-    pub off-permission : (permitted : Bool) (n : Node) → ClockOff t k n → ClockOff t k (permissionStep permitted n .node)
-    off-permission permitted n o = by-test Kept permitted (λ y. by-test Kept (n .error) (λ x. tt) (λ x. o)) (λ y. o)
+    pub off-permission : (sleeps permitted : Bool) (n : Node) → ClockOff t k n → ClockOff t k (permissionStep sleeps permitted n .node)
+    off-permission sleeps permitted n o = by-test Kept permitted (λ y. by-test Kept (sleeps && n .error) (λ x. tt) (λ x. o)) (λ y. o)
       where
         Kept : Reply → Type 0
         Kept r = ClockOff t k (r .node)

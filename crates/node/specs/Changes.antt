@@ -27,10 +27,6 @@ asleep permitted =
       counts = replicate reqids 0;
     }
 
--- "Power-on: Sleep (test 1.3), permission no, the rest clear"
-abbrev pub powerOn : Node
-powerOn = asleep false
-
 -- "Entering Sleep clears all but permission"
 abbrev pub toSleep : Node → Node
 toSleep n = asleep (n .permission)
@@ -50,6 +46,10 @@ toNormal n =
       standby = 0;
       counts = replicate reqids 0;
     }
+
+-- "Power-on: Sleep (test 1.3), permission no, the rest clear"; W-206: machines that never sleep "start in Normal"
+abbrev pub powerOn : Bool → Node
+powerOn sleeps = pick sleeps (asleep false) (toNormal (asleep false))
 
 -- into Standby, as the caller or not, count 0
 abbrev pub toStandby : Node → Bool → Node

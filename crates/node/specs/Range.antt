@@ -1,6 +1,6 @@
 -- The limits of a node's fields, by which 11 is judged.
 use Prim.Native.Nat.{ℕ, _*_}
-use mathlib.Core.Bool.{Bool, true, _&&_, not}
+use mathlib.Core.Bool.{Bool, true, false, _&&_, _||_, not}
 use lib.Dec.{leb, ltb, eqb}
 use Rattle.folds.specs.Fold.{pick}
 use Rattle.machine.specs.declared.State.{State}
@@ -21,6 +21,13 @@ standbyRight t State.Normal caller ticks = not caller && eqb ticks 0
 standbyRight t State.Sleep caller ticks = not caller && eqb ticks 0
 standbyRight t State.Standby caller ticks = pick caller (leb ticks (2 * t .recovery)) (ltb ticks (t .space))
 
+-- W-206: a machine that never sleeps is Normal, with no sleep delay
+abbrev pub isAwake : State → Delay → Bool
+isAwake State.Normal Delay.Off = true
+isAwake State.Normal (Delay.On ticks) = false
+isAwake State.Standby delay = false
+isAwake State.Sleep delay = false
+
 -- "quiet count 0 to E"; "a sequence count 0 to 3 per ReqId"; and the others
-unfoldable pub inRange : Times → Node → Bool
-inRange t n = leb (n .quiet) (t .quiet) && delayRight (t .sleep) (n .delay) && standbyRight t (n .state) (n .caller) (n .standby) && countsBelow seqCounts (n .counts)
+unfoldable pub inRange : Bool → Times → Node → Bool
+inRange sleeps t n = (sleeps || isAwake (n .state) (n .delay)) && leb (n .quiet) (t .quiet) && delayRight (t .sleep) (n .delay) && standbyRight t (n .state) (n .caller) (n .standby) && countsBelow seqCounts (n .counts)

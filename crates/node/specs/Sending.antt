@@ -18,9 +18,9 @@ inNormal State.Normal n reply = reply
 inNormal State.Standby n reply = refuse n 16
 inNormal State.Sleep n reply = refuse n 16
 
--- "Sleep message (Normal): delay restarts at 0"
-abbrev pub sleepMessageStep : Node → Reply
-sleepMessageStep n = inNormal (n .state) n (silent (withDelay (Delay.On 0) n))
+-- "Sleep message (Normal): delay restarts at 0"; W-206: 25, "sleep message under this profile, right after 16"
+abbrev pub sleepMessageStep : Bool → Node → Reply
+sleepMessageStep sleeps n = inNormal (n .state) n (pick sleeps (silent (withDelay (Delay.On 0) n)) (refuse n 25))
 
 -- "Sending gives permission, wake bit, count"
 abbrev pub sendStep : ℕ → Node → Reply

@@ -7,6 +7,7 @@ use Rattle.plan.specs.declared.Times.{Times}
 use Rattle.plan.specs.declared.Plan.{Plan}
 use Rattle.plan.specs.declared.Lookup.{Lookup}
 use Rattle.plan.specs.Limits.{reqids}
+use Rattle.plan.specs.Profile.{sleeps}
 use Rattle.plan.specs.Rules.{planRefusal}
 use Rattle.plan.specs.Answers.{isPolled}
 use Rattle.plan.specs.Find.{findRow}
@@ -39,32 +40,32 @@ rowAsked p Event.SleepMessage = Lookup.Missing
 rowAsked p (Event.Request reqid) = findRow p reqid
 rowAsked p (Event.SendAsk reqid) = findRow p reqid
 
--- what each event does, 16 and the later numbers included, by what it needs of a plan: the times, whether the node is polled and the row
--- asked for
-abbrev pub actWith : Times → ℕ → Bool → Lookup → Node → Event → Reply
-actWith t me polled row n (Event.Tick clock) = tickStep t clock n
-actWith t me polled row n Event.Pulse = pulseStep n
-actWith t me polled row n Event.WakeAsk = wakeAskStep n
-actWith t me polled row n (Event.Permission permitted) = permissionStep permitted n
-actWith t me polled row n Event.SleepMessage = sleepMessageStep n
-actWith t me polled row n (Event.Request reqid) = requestStep me row n
-actWith t me polled row n (Event.SendAsk reqid) = sendAskStep me polled row n
+-- what each event does, 16 and the later numbers included, by what it needs of a plan: whether its machines sleep, the times, whether the
+-- node is polled and the row asked for
+abbrev pub actWith : Bool → Times → ℕ → Bool → Lookup → Node → Event → Reply
+actWith sleeps t me polled row n (Event.Tick clock) = tickStep sleeps t clock n
+actWith sleeps t me polled row n Event.Pulse = pulseStep n
+actWith sleeps t me polled row n Event.WakeAsk = wakeAskStep sleeps n
+actWith sleeps t me polled row n (Event.Permission permitted) = permissionStep sleeps permitted n
+actWith sleeps t me polled row n Event.SleepMessage = sleepMessageStep sleeps n
+actWith sleeps t me polled row n (Event.Request reqid) = requestStep me row n
+actWith sleeps t me polled row n (Event.SendAsk reqid) = sendAskStep me polled row n
 
 -- "then 11, 15, 16, then the rest by number", where the plan is judged; 11 is a "state record or node number out of range"
-abbrev pub stepWith : ℕ → Times → ℕ → Bool → Lookup → Node → Event → Reply
-stepWith nodecount t me polled row n e =
+abbrev pub stepWith : Bool → ℕ → Times → ℕ → Bool → Lookup → Node → Event → Reply
+stepWith sleeps nodecount t me polled row n e =
     pick (ltb me nodecount)
-    (pick (inRange t n)
-    (pick (eventRight e) (actWith t me polled row n e) (refuse n 15))
+    (pick (inRange sleeps t n)
+    (pick (eventRight e) (actWith sleeps t me polled row n e) (refuse n 15))
     (refuse n 11))
     (refuse n 11)
 
 -- the same under a plan
 abbrev pub act : Plan → ℕ → Node → Event → Reply
-act p me n e = actWith (p .times) me (isPolled p me) (rowAsked p e) n e
+act p me n e = actWith (sleeps p) (p .times) me (isPolled p me) (rowAsked p e) n e
 
 abbrev pub stepUnder : Plan → ℕ → Node → Event → Reply
-stepUnder p me n e = stepWith (p .nodecount) (p .times) me (isPolled p me) (rowAsked p e) n e
+stepUnder p me n e = stepWith (sleeps p) (p .nodecount) (p .times) me (isPolled p me) (rowAsked p e) n e
 
 -- "plan 4 to 8 first", and 3 "before 4"
 abbrev pub nodeStep : Plan → ℕ → Node → Event → Reply

@@ -1,6 +1,6 @@
 -- A node's ticks.
 use Prim.Native.Nat.{ℕ, _+_, _*_}
-use mathlib.Core.Bool.{Bool, true, false}
+use mathlib.Core.Bool.{Bool, true, false, _&&_}
 use lib.Dec.{ltb, eqb}
 use Rattle.folds.specs.Fold.{pick}
 use Rattle.machine.specs.declared.State.{State}
@@ -10,25 +10,25 @@ use Rattle.node.specs.declared.Node.{Node}
 use Rattle.node.specs.declared.Reply.{Reply}
 use Rattle.node.specs.Changes.{toSleep, toNormal, toStandby, withQuiet, withDelay, withStandby, silent, calls}
 
--- Normal without clock: "quiet up by one, not above E; at E error on, and Sleep if permitted"
-abbrev pub quietTick : ℕ → Node → Reply
-quietTick limit n =
+-- Normal without clock: "quiet up by one, not above E; at E error on, and Sleep if permitted"; W-206: "set the network error at E without sleeping"
+abbrev pub quietTick : Bool → ℕ → Node → Reply
+quietTick sleeps limit n =
     pick (ltb (n .quiet + 1) limit) (silent (withQuiet (n .quiet + 1) (n .error) n))
-    (pick (n .permission) (silent (toSleep n)) (silent (withQuiet limit true n)))
+    (pick (sleeps && n .permission) (silent (toSleep n)) (silent (withQuiet limit true n)))
 
 -- Normal with clock: "error off, quiet 0"
-abbrev pub awakeTick : ℕ → Bool → Node → Reply
-awakeTick limit true n = silent (withQuiet 0 false n)
-awakeTick limit false n = quietTick limit n
+abbrev pub awakeTick : Bool → ℕ → Bool → Node → Reply
+awakeTick sleeps limit true n = silent (withQuiet 0 false n)
+awakeTick sleeps limit false n = quietTick sleeps limit n
 
 -- Normal: "a running delay reaching S goes Sleep; otherwise .."; "a sleep delay still runs" with clock, and "With clock too, a delay reaching S goes Sleep in that tick"
-abbrev pub normalBy : Times → Bool → Delay → Node → Reply
-normalBy t clock Delay.Off n = awakeTick (t .quiet) clock n
-normalBy t clock (Delay.On ticks) n =
-    pick (ltb (ticks + 1) (t .sleep)) (awakeTick (t .quiet) clock (withDelay (Delay.On (ticks + 1)) n)) (silent (toSleep n))
+abbrev pub normalBy : Bool → Times → Bool → Delay → Node → Reply
+normalBy sleeps t clock Delay.Off n = awakeTick sleeps (t .quiet) clock n
+normalBy sleeps t clock (Delay.On ticks) n =
+    pick (ltb (ticks + 1) (t .sleep)) (awakeTick sleeps (t .quiet) clock (withDelay (Delay.On (ticks + 1)) n)) (silent (toSleep n))
 
-abbrev pub normalTick : Times → Bool → Node → Reply
-normalTick t clock n = normalBy t clock (n .delay) n
+abbrev pub normalTick : Bool → Times → Bool → Node → Reply
+normalTick sleeps t clock n = normalBy sleeps t clock (n .delay) n
 
 -- Standby without clock: "the caller, not above 2R, sends a second pulse at R (8.31), at 2R sets error and sleeps if permitted"
 abbrev pub callerTick : ℕ → Node → Reply
@@ -45,10 +45,10 @@ abbrev pub standbyTick : Times → Node → Reply
 standbyTick t n = pick (n .caller) (callerTick (t .recovery) n) (listenerTick (t .space) n)
 
 -- with clock "Standby: Normal. Sleep: Standby, not caller"; without "Sleep: nothing"
-abbrev pub tickBy : Times → Bool → State → Node → Reply
-tickBy t clock State.Normal n = normalTick t clock n
-tickBy t clock State.Standby n = pick clock (silent (toNormal n)) (standbyTick t n)
-tickBy t clock State.Sleep n = pick clock (silent (toStandby n false)) (silent n)
+abbrev pub tickBy : Bool → Times → Bool → State → Node → Reply
+tickBy sleeps t clock State.Normal n = normalTick sleeps t clock n
+tickBy sleeps t clock State.Standby n = pick clock (silent (toNormal n)) (standbyTick t n)
+tickBy sleeps t clock State.Sleep n = pick clock (silent (toStandby n false)) (silent n)
 
-abbrev pub tickStep : Times → Bool → Node → Reply
-tickStep t clock n = tickBy t clock (n .state) n
+abbrev pub tickStep : Bool → Times → Bool → Node → Reply
+tickStep sleeps t clock n = tickBy sleeps t clock (n .state) n

@@ -1,5 +1,5 @@
 -- A node's waking and its permission.
-use mathlib.Core.Bool.{Bool, true, false}
+use mathlib.Core.Bool.{Bool, true, false, _&&_}
 use Rattle.folds.specs.Fold.{pick}
 use Rattle.machine.specs.declared.State.{State}
 use Rattle.node.specs.declared.Delay.{Delay}
@@ -20,18 +20,19 @@ pulseStep n = pulseBy (n .state) n
 abbrev pub callAnew : Node → Reply
 callAnew n = calls (toStandby (withDelay Delay.Off (withQuiet 0 false n)) true)
 
--- "Sleep, or Standby not caller: now Standby as caller, count 0, command a pulse. Else nothing more", but by W-204 "in Normal while the error shows"
-abbrev pub wakeAskBy : State → Bool → Node → Reply
-wakeAskBy State.Sleep caller n = calls (toStandby n true)
-wakeAskBy State.Standby true n = silent n
-wakeAskBy State.Standby false n = calls (toStandby n true)
-wakeAskBy State.Normal caller n = pick (n .error) (callAnew n) (silent n)
+-- "Sleep, or Standby not caller: now Standby as caller, count 0, command a pulse. Else nothing more", but by W-204 "in Normal while the error shows", which
+-- "does not apply" where machines never sleep (W-206)
+abbrev pub wakeAskBy : Bool → State → Bool → Node → Reply
+wakeAskBy sleeps State.Sleep caller n = calls (toStandby n true)
+wakeAskBy sleeps State.Standby true n = silent n
+wakeAskBy sleeps State.Standby false n = calls (toStandby n true)
+wakeAskBy sleeps State.Normal caller n = pick (sleeps && n .error) (callAnew n) (silent n)
 
 -- "Own ask to wake: wake bit 1"
-abbrev pub wakeAskStep : Node → Reply
-wakeAskStep n = wakeAskBy (n .state) (n .caller) (withWake n)
+abbrev pub wakeAskStep : Bool → Node → Reply
+wakeAskStep sleeps n = wakeAskBy sleeps (n .state) (n .caller) (withWake n)
 
--- "Permission: set; a yes while the error shows goes Sleep"
-abbrev pub permissionStep : Bool → Node → Reply
-permissionStep permitted n =
-    pick permitted (pick (n .error) (silent (toSleep (withPermission permitted n))) (silent (withPermission permitted n))) (silent (withPermission permitted n))
+-- "Permission: set; a yes while the error shows goes Sleep"; W-206: "its permission is only set"
+abbrev pub permissionStep : Bool → Bool → Node → Reply
+permissionStep sleeps permitted n =
+    pick permitted (pick (sleeps && n .error) (silent (toSleep (withPermission permitted n))) (silent (withPermission permitted n))) (silent (withPermission permitted n))

@@ -1,6 +1,6 @@
 // The node machine.
 ghost use mathlib.Core.Path.{_≡_};
-ghost use Rattle.node.specs.Changes.{powerOn, toSleep, toNormal, toStandby, silent, calls, refuse};
+ghost use Rattle.node.specs.Changes.{asleep, powerOn, toSleep, toNormal, toStandby, silent, calls, refuse};
 ghost use Rattle.node.specs.Step.{eventRight, rowAsked, actWith, stepWith, stepUnder, nodeStep};
 use machine::State;
 use plan::Lookup;
@@ -137,12 +137,12 @@ impl Node {
     // Sequence counts lie below this and follow each other modulo it.
     pub const COUNTS: u8 = Row::COUNTS;
 
-    pub fn power_on() -> Node
-        ensures { λ r. ⌜ r ≡ powerOn ⌝ }
+    fn asleep(permission: bool) -> Node
+        ensures { λ r. ⌜ r ≡ asleep permission ⌝ }
     {
         Node {
             state: State::Sleep,
-            permission: false,
+            permission,
             error: false,
             wake: false,
             heard: false,
@@ -154,13 +154,18 @@ impl Node {
         }
     }
 
+    // A machine that never sleeps starts in Normal.
+    pub fn power_on(sleeps: bool) -> Node
+        ensures { λ r. ⌜ r ≡ powerOn sleeps ⌝ }
+    {
+        let node = Node::asleep(false);
+        if sleeps { node } else { node.to_normal() }
+    }
+
     fn to_sleep(self) -> Node
         ensures { λ r. ⌜ r ≡ toSleep self ⌝ }
     {
-        Node {
-            permission: self.permission,
-            ..Node::power_on()
-        }
+        Node::asleep(self.permission)
     }
 
     fn to_normal(self) -> Node
@@ -191,15 +196,23 @@ impl Node {
     }
 
     // What an event does once plan, state and event are judged.
-    fn act_with(self, times: Times, me: u8, polled: bool, row: Lookup, event: Event) -> Reply
-        ensures { λ r. ⌜ r ≡ actWith times me polled row self event ⌝ }
+    fn act_with(
+        self,
+        sleeps: bool,
+        times: Times,
+        me: u8,
+        polled: bool,
+        row: Lookup,
+        event: Event,
+    ) -> Reply
+        ensures { λ r. ⌜ r ≡ actWith sleeps times me polled row self event ⌝ }
     {
         match event {
-            Event::Tick(clock) => self.tick(times, clock),
+            Event::Tick(clock) => self.tick(sleeps, times, clock),
             Event::Pulse => self.pulse(),
-            Event::WakeAsk => self.wake_ask(),
-            Event::Permission(permitted) => self.permit(permitted),
-            Event::SleepMessage => self.sleep_message(),
+            Event::WakeAsk => self.wake_ask(sleeps),
+            Event::Permission(permitted) => self.permit(sleeps, permitted),
+            Event::SleepMessage => self.sleep_message(sleeps),
             Event::Request(_) => self.request(me, row),
             Event::SendAsk(_) => self.send_ask(me, polled, row),
         }
@@ -208,6 +221,7 @@ impl Node {
     // A step of node number `me` with what it needs of a plan that is judged: the row is the one that the event asks for.
     pub fn step_with(
         self,
+        sleeps: bool,
         nodecount: u8,
         times: Times,
         me: u8,
@@ -215,12 +229,12 @@ impl Node {
         row: Lookup,
         event: Event,
     ) -> Reply
-        ensures { λ r. ⌜ r ≡ stepWith nodecount times me polled row self event ⌝ }
+        ensures { λ r. ⌜ r ≡ stepWith sleeps nodecount times me polled row self event ⌝ }
     {
         if me < nodecount {
-            if self.in_range(times) {
+            if self.in_range(sleeps, times) {
                 if is_right(event) {
-                    self.act_with(times, me, polled, row, event)
+                    self.act_with(sleeps, times, me, polled, row, event)
                 } else {
                     refuse(self, 15)
                 }
@@ -239,7 +253,7 @@ impl Node {
         let times = plan.times;
         let row = row_asked(plan, event);
         let polled = plan.is_polled(me);
-        self.step_with(plan.nodecount, times, me, polled, row, event)
+        self.step_with(plan.sleeps(), plan.nodecount, times, me, polled, row, event)
     }
 
     // A step of node number `me` under a plan.

@@ -1,6 +1,6 @@
 // The limits of a node's fields.
 ghost use mathlib.Core.Path.{_≡_};
-ghost use Rattle.node.specs.Range.{delayRight, standbyRight, inRange};
+ghost use Rattle.node.specs.Range.{delayRight, standbyRight, isAwake, inRange};
 use crate::Delay;
 use crate::Node;
 use machine::State;
@@ -32,14 +32,28 @@ fn standby_right(times: Times, state: State, caller: bool, standby: u32) -> bool
     }
 }
 
+fn is_awake(state: State, delay: Delay) -> bool
+    ensures { λ r. ⌜ r ≡ isAwake state delay ⌝ }
+{
+    match state {
+        State::Normal => match delay {
+            Delay::Off => true,
+            Delay::On(_) => false,
+        },
+        State::Standby => false,
+        State::Sleep => false,
+    }
+}
+
 impl Node {
-    pub fn in_range(self, times: Times) -> bool
-        ensures { λ r. ⌜ r ≡ inRange times self ⌝ }
+    pub fn in_range(self, sleeps: bool, times: Times) -> bool
+        ensures { λ r. ⌜ r ≡ inRange sleeps times self ⌝ }
     {
         let delay = self.delay;
         let state = self.state;
         let counts = self.counts;
-        (self.quiet <= times.quiet)
+        (sleeps | is_awake(state, delay))
+            & (self.quiet <= times.quiet)
             & delay_right(times.sleep, delay)
             & standby_right(times, state, self.caller, self.standby)
             & counts_below(counts, Node::COUNTS)

@@ -24,15 +24,21 @@ fn next_count(count: u8) -> u8
 }
 
 impl Node {
-    pub fn sleep_message(self) -> Reply
-        ensures { λ r. ⌜ r ≡ sleepMessageStep self ⌝ }
+    pub fn sleep_message(self, sleeps: bool) -> Reply
+        ensures { λ r. ⌜ r ≡ sleepMessageStep sleeps self ⌝ }
     {
         let state = self.state;
         match state {
-            State::Normal => silent(Node {
-                delay: Delay::On(0),
-                ..self
-            }),
+            State::Normal => {
+                if sleeps {
+                    silent(Node {
+                        delay: Delay::On(0),
+                        ..self
+                    })
+                } else {
+                    refuse(self, 25)
+                }
+            }
             State::Standby => refuse(self, 16),
             State::Sleep => refuse(self, 16),
         }

@@ -10,15 +10,15 @@ use machine::State;
 use plan::Times;
 
 impl Node {
-    fn quiet_tick(mut self, limit: u16) -> Reply
-        ensures { λ r. ⌜ r ≡ quietTick limit self ⌝ }
+    fn quiet_tick(mut self, sleeps: bool, limit: u16) -> Reply
+        ensures { λ r. ⌜ r ≡ quietTick sleeps limit self ⌝ }
     {
         let quiet = self.quiet;
         if (quiet as u32) + 1 < (limit as u32) {
             self.quiet = quiet + 1;
             silent(self)
         } else {
-            if self.permission {
+            if sleeps & self.permission {
                 silent(self.to_sleep())
             } else {
                 self.quiet = limit;
@@ -28,31 +28,31 @@ impl Node {
         }
     }
 
-    fn awake_tick(mut self, limit: u16, clock: bool) -> Reply
-        ensures { λ r. ⌜ r ≡ awakeTick limit clock self ⌝ }
+    fn awake_tick(mut self, sleeps: bool, limit: u16, clock: bool) -> Reply
+        ensures { λ r. ⌜ r ≡ awakeTick sleeps limit clock self ⌝ }
     {
         if clock {
             self.error = false;
             self.quiet = 0;
             silent(self)
         } else {
-            self.quiet_tick(limit)
+            self.quiet_tick(sleeps, limit)
         }
     }
 
-    fn normal_tick(self, times: Times, clock: bool) -> Reply
-        ensures { λ r. ⌜ r ≡ normalTick times clock self ⌝ }
+    fn normal_tick(self, sleeps: bool, times: Times, clock: bool) -> Reply
+        ensures { λ r. ⌜ r ≡ normalTick sleeps times clock self ⌝ }
     {
         let delay = self.delay;
         match delay {
-            Delay::Off => self.awake_tick(times.quiet, clock),
+            Delay::Off => self.awake_tick(sleeps, times.quiet, clock),
             Delay::On(ticks) => {
                 if (ticks as u32) + 1 < (times.sleep as u32) {
                     let later = Node {
                         delay: Delay::On(ticks + 1),
                         ..self
                     };
-                    later.awake_tick(times.quiet, clock)
+                    later.awake_tick(sleeps, times.quiet, clock)
                 } else {
                     silent(self.to_sleep())
                 }
@@ -105,12 +105,12 @@ impl Node {
         }
     }
 
-    pub fn tick(self, times: Times, clock: bool) -> Reply
-        ensures { λ r. ⌜ r ≡ tickStep times clock self ⌝ }
+    pub fn tick(self, sleeps: bool, times: Times, clock: bool) -> Reply
+        ensures { λ r. ⌜ r ≡ tickStep sleeps times clock self ⌝ }
     {
         let state = self.state;
         match state {
-            State::Normal => self.normal_tick(times, clock),
+            State::Normal => self.normal_tick(sleeps, times, clock),
             State::Standby => {
                 if clock {
                     silent(self.to_normal())

@@ -20,8 +20,8 @@ impl Node {
         }
     }
 
-    pub fn wake_ask(mut self) -> Reply
-        ensures { λ r. ⌜ r ≡ wakeAskStep self ⌝ }
+    pub fn wake_ask(mut self, sleeps: bool) -> Reply
+        ensures { λ r. ⌜ r ≡ wakeAskStep sleeps self ⌝ }
     {
         let state = self.state;
         let caller = self.caller;
@@ -38,7 +38,7 @@ impl Node {
             }
             // the clock is gone (W-204)
             State::Normal => {
-                if error {
+                if sleeps & error {
                     let cleared = Node {
                         error: false,
                         quiet: 0,
@@ -53,12 +53,12 @@ impl Node {
         }
     }
 
-    pub fn permit(mut self, permitted: bool) -> Reply
-        ensures { λ r. ⌜ r ≡ permissionStep permitted self ⌝ }
+    pub fn permit(mut self, sleeps: bool, permitted: bool) -> Reply
+        ensures { λ r. ⌜ r ≡ permissionStep sleeps permitted self ⌝ }
     {
         self.permission = permitted;
         if permitted {
-            if self.error {
+            if sleeps & self.error {
                 silent(self.to_sleep())
             } else {
                 silent(self)

@@ -1,11 +1,14 @@
 -- By what each test ensures. Assumes nothing.
 use mathlib.Core.Path.{ap, ap₂}
-use mathlib.Core.Bool.{_&&_}
+use mathlib.Core.Bool.{_&&_, _||_}
 use lib.Dec.{leb}
 use Rattle.node.specs.Range.{inRange}
 use borrow.Author.Needs.{needs}
 use Rattle.node.proofs.Node.in_range.Statement.{statement}
 use Rattle.node.proofs.Node.in_range.Tie as tie
+
+is-awake-requires : tie.Need-is-awake-requires
+is-awake-requires c κs = search needs
 
 delay-right-requires : tie.Need-delay-right-requires
 delay-right-requires c κs = search needs
@@ -19,8 +22,21 @@ counts-below-requires c κs = search needs
 returns : tie.Need-returns
 unfolding inRange
 returns c =
-    ap₂ _&&_ (ap₂ _&&_ (ap (λ x. leb (c .before .before .before .before .before .before .args .self .quiet) (c .before .before .before .before .before .before .args .times .quiet) && x) (c .before .before .delay-right .ensures)) (c .before .standby-right .ensures)) (c .counts-below .ensures)
+    let args = c .before .before .before .before .before .before .before .args in
+    ap₂ _&&_
+    (ap₂ _&&_
+    (ap₂ _&&_
+    (ap (λ x. (args .sleeps || x) && leb (args .self .quiet) (args .times .quiet)) (c .before .before .before .before .before .is-awake .ensures))
+    (c .before .before .delay-right .ensures))
+    (c .before .standby-right .ensures))
+    (c .counts-below .ensures)
 
 pub in-range-spec : {M : Type 1} → statement M
 in-range-spec =
-    tie.close (tie.spec delay-right-requires standby-right-requires counts-below-requires returns)
+    tie.close
+    (tie.spec
+    is-awake-requires
+    delay-right-requires
+    standby-right-requires
+    counts-below-requires
+    returns)
