@@ -11,6 +11,7 @@ use Rattle.plan.specs.declared.Row.{Row}
 use Rattle.plan.specs.declared.Times.{Times}
 use Rattle.plan.specs.declared.Lookup.{Lookup}
 use Rattle.plan.specs.declared.Plan.{Plan}
+use Rattle.plan.specs.Profile.{sleeps}
 use Rattle.plan.specs.Rules.{planRefusal}
 use Rattle.plan.specs.Answers.{masterNumber, isCounted, accepts}
 use Rattle.plan.specs.Find.{findRow}
@@ -79,16 +80,17 @@ module _ (m : Master) where
   permission-clocked true = still _ refl refl refl
   permission-clocked false = still _ refl refl (call-back-state (withPermission false m))
 
-  sleep-ask-clocked : (nodecount : ℕ) (s : State) (q : Phase) → Clocked m (sleepAskBy nodecount s q m)
-  sleep-ask-clocked nodecount State.Normal Phase.Open =
+  sleep-ask-clocked : (nodecount : ℕ) (s : State) (sleeps : Bool) (q : Phase) → Clocked m (sleepAskBy nodecount s sleeps q m)
+  sleep-ask-clocked nodecount State.Normal true Phase.Open =
       by-test (Clocked m) (m .permission)
       (λ y. by-test (Clocked m) (ltb (firstTo (notHeld (m .holds)) nodecount) nodecount) (λ l. still _ refl refl refl) (λ l. still _ refl refl refl))
       (λ y. still _ refl refl refl)
-  sleep-ask-clocked nodecount State.Normal Phase.Sending = still _ refl refl refl
-  sleep-ask-clocked nodecount State.Normal Phase.Withdrawn = still _ refl refl refl
-  sleep-ask-clocked nodecount State.Normal Phase.Closing = still _ refl refl refl
-  sleep-ask-clocked nodecount State.Standby q = still _ refl refl refl
-  sleep-ask-clocked nodecount State.Sleep q = still _ refl refl refl
+  sleep-ask-clocked nodecount State.Normal true Phase.Sending = still _ refl refl refl
+  sleep-ask-clocked nodecount State.Normal true Phase.Withdrawn = still _ refl refl refl
+  sleep-ask-clocked nodecount State.Normal true Phase.Closing = still _ refl refl refl
+  sleep-ask-clocked nodecount State.Normal false q = still _ refl refl refl
+  sleep-ask-clocked nodecount State.Standby sleeps q = still _ refl refl refl
+  sleep-ask-clocked nodecount State.Sleep sleeps q = still _ refl refl refl
 
   send-result-clocked : (sent : Bool) (s : State) (q : Phase) → Clocked m (sendResultBy sent s q m)
   send-result-clocked sent State.Normal Phase.Open = still _ refl refl refl
@@ -122,13 +124,13 @@ module _ (m : Master) where
   act-clocked p Event.Pulse = wake-up-clocked
   act-clocked p Event.WakeAsk = wake-up-clocked
   act-clocked p (Event.Permission permitted) = permission-clocked permitted
-  act-clocked p Event.SleepAsk = sleep-ask-clocked (p .nodecount) (m .state) (m .phase)
+  act-clocked p Event.SleepAsk = sleep-ask-clocked (p .nodecount) (m .state) (sleeps p) (m .phase)
   act-clocked p (Event.SendResult sent) = send-result-clocked sent (m .state) (m .phase)
 
   step-clocked : (p : Plan) (e : Event) → Clocked m (masterStep p m e)
   step-clocked p e =
       by-test (Clocked m) (eqb (planRefusal p) 0)
-      (λ a. by-test (Clocked m) (inRange (p .nodecount) (p .times) m)
+      (λ a. by-test (Clocked m) (inRange (sleeps p) (p .nodecount) (p .times) m)
       (λ b. by-test (Clocked m) (eventRight e) (λ c. act-clocked p e) (λ c. still _ refl refl refl))
       (λ b. still _ refl refl refl))
       (λ a. still _ refl refl refl)

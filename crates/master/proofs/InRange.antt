@@ -1,7 +1,7 @@
 -- From a state in range, under an accepted plan, every step gives a state in range.
 use Prim.Native.Nat.{ℕ, _+_, _-_, _<_, _≤_}
-use mathlib.Core.Path.{_≡_, refl, ap, ap₂, _∙_}
-use mathlib.Core.Bool.{Bool, true, false, not, _&&_}
+use mathlib.Core.Path.{_≡_, refl, sym, ap, ap₂, _∙_}
+use mathlib.Core.Bool.{Bool, true, false, not, _&&_, _||_}
 use mathlib.Core.List.{List}
 use lib.Dec.{leb, ltb, eqb}
 use lib.ListN.{getD, set, length, getD-replicate, List·getD-eq-default}
@@ -11,7 +11,7 @@ use native.Mathlib.Decide.{decLt, ℕ-discrete}
 use borrow.Author.Tests.{lt-ltb, lt-leb, le-ltb, le-leb, ltb-true}
 use Rattle.folds.specs.Fold.{allTo, firstTo}
 use Rattle.folds.proofs.AllAny.{and-l, and-r, all-at, all-intro}
-use Rattle.folds.proofs.Choices.{by-test}
+use Rattle.folds.proofs.Choices.{by-test, no-way}
 use Rattle.folds.proofs.Tables.{getD-tab}
 use Rattle.machine.specs.declared.State.{State}
 use Rattle.machine.specs.State.{isNormal}
@@ -21,6 +21,7 @@ use Rattle.plan.specs.declared.Row.{Row}
 use Rattle.plan.specs.declared.Times.{Times}
 use Rattle.plan.specs.declared.Lookup.{Lookup}
 use Rattle.plan.specs.declared.Plan.{Plan}
+use Rattle.plan.specs.Profile.{sleeps}
 use Rattle.plan.specs.Rules.{planRefusal}
 use Rattle.plan.specs.Answers.{masterNumber, isCounted, accepts}
 use Rattle.plan.specs.Find.{findRow}
@@ -33,14 +34,15 @@ use Rattle.master.specs.declared.Master.{Master}
 use Rattle.master.specs.declared.Event.{Event}
 use Rattle.master.specs.declared.Reply.{Reply}
 use Rattle.master.specs.Changes.{noHold, noHolds, noCauses, noCounts, powerOn, inPhase, withPermission, letGo, letAllGo, hold, withCause, woken, wokenAt, allWoken, dropAll, callBackBy, callBack}
-use Rattle.master.specs.Range.{isOpen, phaseRight, delayRight, holdRight, holdRightAt, holdsRight, causeRight, causeRightAt, causesRight, inRange}
+use Rattle.master.specs.Range.{isOpen, isAwake, phaseRight, delayRight, holdRight, holdRightAt, holdsRight, causeRight, causeRightAt, causesRight, inRange}
 use Rattle.master.specs.Ticks.{older, olderAt, allOlder, agedOut, agedOutAt, allAgedOut, aged, tickBy}
 use Rattle.master.specs.Waking.{wakeUpBy, permissionStep}
 use Rattle.master.specs.Sleeping.{notHeld, sleepAskBy, sendResultBy}
 use Rattle.master.specs.Answers.{judged, counted, wholeStep, rowStep, answerBy}
 use Rattle.master.specs.Step.{eventRight, act, masterStep}
+use Rattle.master.proofs.Awake.{Awake, step-awake}
 
--- what a state in range keeps
+-- what a state in range keeps, whether machines sleep or not
 pub record Fits (nodecount : ℕ) (t : Times) (m : Master) : Type 0 where
   pub phase : phaseRight (m .state) (m .phase) ≡ true
   pub delay : delayRight t (m .state) (m .phase) (m .delay) ≡ true
@@ -48,22 +50,34 @@ pub record Fits (nodecount : ℕ) (t : Times) (m : Master) : Type 0 where
   pub holds : holdsRight nodecount (t .window) (m .holds) ≡ true
   pub causes : causesRight (isNormal (m .state)) nodecount (m .holds) (m .causes) ≡ true
 
-pub fits : (nodecount : ℕ) (t : Times) (m : Master) → inRange nodecount t m ≡ true → Fits nodecount t m
+pub fits : (sleeps : Bool) (nodecount : ℕ) (t : Times) (m : Master) → inRange sleeps nodecount t m ≡ true → Fits nodecount t m
 unfolding inRange
-fits nodecount t m e =
+fits sleeps nodecount t m e =
+    let u = sleeps || isAwake (m .state) (m .phase) in
     let p = phaseRight (m .state) (m .phase) in
     let d = delayRight t (m .state) (m .phase) (m .delay) in
     let c = countsBelow 5 (m .counts) in
     let h = holdsRight nodecount (t .window) (m .holds) in
     let w = causesRight (isNormal (m .state)) nodecount (m .holds) (m .causes) in
-    let pdc = and-l (p && d && c) (h && w) e in
-    let hw = and-r (p && d && c) (h && w) e in
-    let pd = and-l (p && d) c pdc in
-    record { phase = and-l p d pd; delay = and-r p d pd; counts = and-r (p && d) c pdc; holds = and-l h w hw; causes = and-r h w hw }
+    let updc = and-l (u && p && d && c) (h && w) e in
+    let hw = and-r (u && p && d && c) (h && w) e in
+    let upd = and-l (u && p && d) c updc in
+    record { phase = and-r u p (and-l (u && p) d upd); delay = and-r (u && p) d upd; counts = and-r (u && p && d) c updc; holds = and-l h w hw; causes = and-r h w hw }
 
-pub in-range : (nodecount : ℕ) (t : Times) (m : Master) → Fits nodecount t m → inRange nodecount t m ≡ true
+-- and where they do not
+pub awake : (nodecount : ℕ) (t : Times) (m : Master) → inRange false nodecount t m ≡ true → Awake m
 unfolding inRange
-in-range nodecount t m f = rw (f .phase, f .delay, f .counts, f .holds, f .causes)
+awake nodecount t m e =
+    let u = isAwake (m .state) (m .phase) in
+    let p = phaseRight (m .state) (m .phase) in
+    let d = delayRight t (m .state) (m .phase) (m .delay) in
+    let c = countsBelow 5 (m .counts) in
+    and-l u p (and-l (u && p) d (and-l (u && p && d) c (and-l (u && p && d && c) _ e)))
+
+pub in-range : (sleeps : Bool) (nodecount : ℕ) (t : Times) (m : Master) → (sleeps ≡ false → Awake m) → Fits nodecount t m → inRange sleeps nodecount t m ≡ true
+unfolding inRange
+in-range true nodecount t m a f = rw (f .phase, f .delay, f .counts, f .holds, f .causes)
+in-range false nodecount t m a f = rw (a refl, f .phase, f .delay, f .counts, f .holds, f .causes)
 
 no-counts : countsBelow 5 noCounts ≡ true
 unfolding countsBelow allTo
@@ -311,19 +325,20 @@ module _ (nodecount : ℕ) (t : Times) (a : TimesFit t) where
   permission-fits false m f =
       call-back-fits (withPermission false m) (record { phase = f .phase; delay = f .delay; counts = f .counts; holds = f .holds; causes = f .causes })
 
-  sleep-ask-fits : (m : Master) → Fits nodecount t m → Kept (sleepAskBy nodecount (m .state) (m .phase) m)
-  sleep-ask-fits m f = go (m .state) refl (m .phase)
+  sleep-ask-fits : (sleeps : Bool) (m : Master) → Fits nodecount t m → Kept (sleepAskBy nodecount (m .state) sleeps (m .phase) m)
+  sleep-ask-fits sleeps m f = go (m .state) refl sleeps (m .phase)
     where
-      go : (s : State) → m .state ≡ s → (q : Phase) → Kept (sleepAskBy nodecount s q m)
-      go State.Normal e Phase.Open =
+      go : (s : State) → m .state ≡ s → (sleeps : Bool) (q : Phase) → Kept (sleepAskBy nodecount s sleeps q m)
+      go State.Normal e true Phase.Open =
           by-test Kept (m .permission)
           (λ y. by-test Kept (ltb (firstTo (notHeld (m .holds)) nodecount) nodecount) (λ l. f) (λ l. phase-fits Phase.Sending m e f))
           (λ y. f)
-      go State.Normal e Phase.Sending = f
-      go State.Normal e Phase.Withdrawn = f
-      go State.Normal e Phase.Closing = f
-      go State.Standby e q = f
-      go State.Sleep e q = f
+      go State.Normal e true Phase.Sending = f
+      go State.Normal e true Phase.Withdrawn = f
+      go State.Normal e true Phase.Closing = f
+      go State.Normal e false q = f
+      go State.Standby e sleeps q = f
+      go State.Sleep e sleeps q = f
 
   send-result-fits : (sent : Bool) (m : Master) → Fits nodecount t m → Kept (sendResultBy sent (m .state) (m .phase) m)
   send-result-fits sent m f = go sent (m .state) refl (m .phase)
@@ -383,21 +398,29 @@ act-fits p ok m e r f = go e r
     go Event.Pulse r = wake-up-fits (p .nodecount) (p .times) a m f
     go Event.WakeAsk r = wake-up-fits (p .nodecount) (p .times) a m f
     go (Event.Permission permitted) r = permission-fits (p .nodecount) (p .times) a permitted m f
-    go Event.SleepAsk r = sleep-ask-fits (p .nodecount) (p .times) a m f
+    go Event.SleepAsk r = sleep-ask-fits (p .nodecount) (p .times) a (sleeps p) m f
     go (Event.SendResult sent) r = send-result-fits (p .nodecount) (p .times) a sent m f
 
 -- and so does every step
-pub range-kept : (p : Plan) → planRefusal p ≡ 0 → (m : Master) (e : Event) → inRange (p .nodecount) (p .times) m ≡ true
-    → inRange (p .nodecount) (p .times) (masterStep p m e .master) ≡ true
-range-kept p ok m e r = in-range (p .nodecount) (p .times) _ (go (fits (p .nodecount) (p .times) m r))
+pub range-kept : (p : Plan) → planRefusal p ≡ 0 → (m : Master) (e : Event) → inRange (sleeps p) (p .nodecount) (p .times) m ≡ true
+    → inRange (sleeps p) (p .nodecount) (p .times) (masterStep p m e .master) ≡ true
+range-kept p ok m e r = in-range (sleeps p) (p .nodecount) (p .times) _ stays (go (fits (sleeps p) (p .nodecount) (p .times) m r))
   where
+    stays : sleeps p ≡ false → Awake (masterStep p m e .master)
+    stays q = step-awake p m e q (awake (p .nodecount) (p .times) m (rw q at r))
+
     go : Fits (p .nodecount) (p .times) m → Fits (p .nodecount) (p .times) (masterStep p m e .master)
     go f =
         by-test (λ (r : Reply). Fits (p .nodecount) (p .times) (r .master)) (eqb (planRefusal p) 0)
-        (λ q. by-test (λ (r : Reply). Fits (p .nodecount) (p .times) (r .master)) (inRange (p .nodecount) (p .times) m)
+        (λ q. by-test (λ (r : Reply). Fits (p .nodecount) (p .times) (r .master)) (inRange (sleeps p) (p .nodecount) (p .times) m)
         (λ q. by-test (λ (r : Reply). Fits (p .nodecount) (p .times) (r .master)) (eventRight e) (λ q. act-fits p ok m e q f) (λ q. f))
         (λ q. f))
         (λ q. f)
 
-pub power-on-fits : (nodecount : ℕ) (t : Times) → inRange nodecount t powerOn ≡ true
-power-on-fits nodecount t = in-range nodecount t powerOn (record { phase = refl; delay = refl; counts = no-counts; holds = none-right nodecount (t .window); causes = no-causes-right nodecount (t .window) false noHolds })
+pub power-on-fits : (sleeps : Bool) (nodecount : ℕ) (t : Times) → inRange sleeps nodecount t (powerOn sleeps) ≡ true
+power-on-fits true nodecount t =
+    in-range true nodecount t (powerOn true) (λ e. no-way (sym e))
+    (record { phase = refl; delay = refl; counts = no-counts; holds = none-right nodecount (t .window); causes = no-causes-right nodecount (t .window) false noHolds })
+power-on-fits false nodecount t =
+    in-range false nodecount t (powerOn false) (λ e. refl)
+    (record { phase = refl; delay = refl; counts = no-counts; holds = none-right nodecount (t .window); causes = no-causes-right nodecount (t .window) true noHolds })

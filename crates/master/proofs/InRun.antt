@@ -30,6 +30,7 @@ use Rattle.master.specs.Ticks.{older, olderAt, allOlder, allAgedOut, age
 use Rattle.master.specs.Waking.{wakeUpBy, wakeUpStep, permissionStep}
 use Rattle.master.specs.Sleeping.{notHeld, sleepAskBy, sleepAskStep, sendResultBy, sendResultStep}
 use Rattle.master.specs.Answers.{isWhole, judged, rowStep}
+use Rattle.master.proofs.Awake.{split}
 
 -- a sleep message under way, and not called back
 abbrev pub underWay : Phase → Bool
@@ -58,11 +59,6 @@ pub record InRun (n window : ℕ) (permitted : Bool) (Given : ℕ → ℕ → Ty
 
 none-held : NoneHeld noHolds
 none-held i l = ap (λ (h : Hold). h .held) (getD-replicate 16 i noHold noHold l)
-
--- m itself where these are its own state and phase
-abbrev split : Master → State → Phase → Master
-split m state phase =
-    record { state = state; phase = phase; permission = m .permission; holds = m .holds; causes = m .causes; counts = m .counts; delay = m .delay; ticks = m .ticks }
 
 older-held : (window : ℕ) (h : Hold) → older window h .held ≡ true → (h .held ≡ true) × (h .age < window) × (older window h .age ≡ suc (h .age))
 older-held window h =
@@ -207,22 +203,23 @@ module _ (n : ℕ) (few : n ≤ 16) (t : Times) (Given Given′ : ℕ → ℕ �
   -- a sleep ask is refused, or all permit and it is accepted
   pub run-ask : (Q : Reply → Type 0) (m : Master) → ((number node : ℕ) → Q (record { master = m; command = Command.Nothing; refusal = number; node = node; lost = 0 }))
       → (isNormal (m .state) ≡ true → permitted ≡ true → ((i : ℕ) → i < n → (k : ℕ) × (k ≤ t .window) × Given i k) → Q (commands Command.SleepMessage (inPhase Phase.Sending m)))
-      → Before m → Q (sleepAskStep n m)
-  run-ask Q m refused accepted v = go (m .state) refl (m .phase)
+      → (sleeps : Bool) → Before m → Q (sleepAskStep sleeps n m)
+  run-ask Q m refused accepted sleeps v = go (m .state) refl sleeps (m .phase)
     where
-      go : (s : State) → m .state ≡ s → (q : Phase) → Q (sleepAskBy n s q m)
-      go State.Normal e Phase.Open =
+      go : (s : State) → m .state ≡ s → (sleeps : Bool) (q : Phase) → Q (sleepAskBy n s sleeps q m)
+      go State.Normal e true Phase.Open =
           by-test Q (m .permission)
           (λ y. by-test Q (ltb (firstTo (notHeld (m .holds)) n) n)
           (λ l. refused 20 (firstTo (notHeld (m .holds)) n))
           (λ l. accepted (ap isNormal e) (sym (v .permission) ∙ y)
           (λ i h. let g = v .holds i h (all-held n (m .holds) (ltb-false _ _ l) i h) in (holdAt (m .holds) i .age, g .1, g .0))))
           (λ y. refused 19 0)
-      go State.Normal e Phase.Sending = refused 18 0
-      go State.Normal e Phase.Withdrawn = refused 18 0
-      go State.Normal e Phase.Closing = refused 18 0
-      go State.Standby e q = refused 16 0
-      go State.Sleep e q = refused 16 0
+      go State.Normal e true Phase.Sending = refused 18 0
+      go State.Normal e true Phase.Withdrawn = refused 18 0
+      go State.Normal e true Phase.Closing = refused 18 0
+      go State.Normal e false q = refused 25 0
+      go State.Standby e sleeps q = refused 16 0
+      go State.Sleep e sleeps q = refused 16 0
 
   -- an answer in Normal, of a node's row: others' permissions stay unless it is a wake-up; one that permits is held and calls nothing back
   pub run-answer : (m : Master) (row : Row) (a : Answer) → isNormal (m .state) ≡ true → row .publisher < n
@@ -280,6 +277,8 @@ pub run-sending : (n window : ℕ) (permitted : Bool) (Given : ℕ → ℕ → T
 run-sending n window permitted Given Agreed Agreed′ m on agreed v =
     record { permission = v .permission; holds = v .holds; agreed = λ g. agreed; outside = λ e. no-way (sym e ∙ on) }
 
-pub run-power-on : (n window : ℕ) (few : n ≤ 16) (Given : ℕ → ℕ → Type 0) (Agreed : Type 0) → InRun n window false Given Agreed powerOn
-run-power-on n window few Given Agreed =
+pub run-power-on : (n window : ℕ) (few : n ≤ 16) (Given : ℕ → ℕ → Type 0) (Agreed : Type 0) (sleeps : Bool) → InRun n window false Given Agreed (powerOn sleeps)
+run-power-on n window few Given Agreed true =
+    record { permission = refl; holds = λ i l y. no-way (sym (none-held i (omega arith)) ∙ y); agreed = λ g. no-way g; outside = λ e. (none-held, refl) }
+run-power-on n window few Given Agreed false =
     record { permission = refl; holds = λ i l y. no-way (sym (none-held i (omega arith)) ∙ y); agreed = λ g. no-way g; outside = λ e. (none-held, refl) }

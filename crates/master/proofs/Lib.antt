@@ -1,3 +1,4 @@
+pub mod Awake
 pub mod Clock
 pub mod InRange
 pub mod InRun

@@ -9,6 +9,7 @@ use Rattle.plan.specs.declared.Row.{Row}
 use Rattle.plan.specs.declared.Times.{Times}
 use Rattle.plan.specs.declared.Lookup.{Lookup}
 use Rattle.plan.specs.declared.Plan.{Plan}
+use Rattle.plan.specs.Profile.{sleeps}
 use Rattle.plan.specs.Rules.{planRefusal}
 use Rattle.plan.specs.Answers.{masterNumber, isCounted, accepts}
 use Rattle.plan.specs.Find.{findRow}
@@ -87,16 +88,17 @@ module _ (m : Master) where
   permission-alike true = alike _ _ refl refl refl refl refl
   permission-alike false = alike _ _ (backs (withPermission false m) (withPermission false (bare m)) refl) refl refl refl refl
 
-  sleep-ask-alike : (nodecount : ℕ) (s : State) (q : Phase) → SameButCauses (sleepAskBy nodecount s q m) (sleepAskBy nodecount s q (bare m))
-  sleep-ask-alike nodecount State.Normal Phase.Open =
+  sleep-ask-alike : (nodecount : ℕ) (s : State) (sleeps : Bool) (q : Phase) → SameButCauses (sleepAskBy nodecount s sleeps q m) (sleepAskBy nodecount s sleeps q (bare m))
+  sleep-ask-alike nodecount State.Normal true Phase.Open =
       both SameButCauses (m .permission)
       (both SameButCauses (ltb (firstTo (notHeld (m .holds)) nodecount) nodecount) (alike _ _ refl refl refl refl refl) (alike _ _ refl refl refl refl refl))
       (alike _ _ refl refl refl refl refl)
-  sleep-ask-alike nodecount State.Normal Phase.Sending = alike _ _ refl refl refl refl refl
-  sleep-ask-alike nodecount State.Normal Phase.Withdrawn = alike _ _ refl refl refl refl refl
-  sleep-ask-alike nodecount State.Normal Phase.Closing = alike _ _ refl refl refl refl refl
-  sleep-ask-alike nodecount State.Standby q = alike _ _ refl refl refl refl refl
-  sleep-ask-alike nodecount State.Sleep q = alike _ _ refl refl refl refl refl
+  sleep-ask-alike nodecount State.Normal true Phase.Sending = alike _ _ refl refl refl refl refl
+  sleep-ask-alike nodecount State.Normal true Phase.Withdrawn = alike _ _ refl refl refl refl refl
+  sleep-ask-alike nodecount State.Normal true Phase.Closing = alike _ _ refl refl refl refl refl
+  sleep-ask-alike nodecount State.Normal false q = alike _ _ refl refl refl refl refl
+  sleep-ask-alike nodecount State.Standby sleeps q = alike _ _ refl refl refl refl refl
+  sleep-ask-alike nodecount State.Sleep sleeps q = alike _ _ refl refl refl refl refl
 
   send-result-alike : (sent : Bool) (s : State) (q : Phase) → SameButCauses (sendResultBy sent s q m) (sendResultBy sent s q (bare m))
   send-result-alike sent State.Normal Phase.Open = alike _ _ refl refl refl refl refl
@@ -138,11 +140,12 @@ module _ (m : Master) where
   act-alike p Event.Pulse = wake-up-alike (m .state)
   act-alike p Event.WakeAsk = wake-up-alike (m .state)
   act-alike p (Event.Permission permitted) = permission-alike permitted
-  act-alike p Event.SleepAsk = sleep-ask-alike (p .nodecount) (m .state) (m .phase)
+  act-alike p Event.SleepAsk = sleep-ask-alike (p .nodecount) (m .state) (sleeps p) (m .phase)
   act-alike p (Event.SendResult sent) = send-result-alike sent (m .state) (m .phase)
 
 -- two masters in range that differ in causes alone: each event gives the same reply, and masters that differ in causes alone
-pub no-bearing : (p : Plan) (e : Event) (m n : Master) → inRange (p .nodecount) (p .times) m ≡ true → inRange (p .nodecount) (p .times) n ≡ true
+pub no-bearing : (p : Plan) (e : Event) (m n : Master) → inRange (sleeps p) (p .nodecount) (p .times) m ≡ true
+    → inRange (sleeps p) (p .nodecount) (p .times) n ≡ true
     → bare m ≡ bare n → SameButCauses (masterStep p m e) (masterStep p n e)
 no-bearing p e m n r s same =
     both SameButCauses (eqb (planRefusal p) 0)

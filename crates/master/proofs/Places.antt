@@ -14,6 +14,7 @@ use Rattle.plan.specs.declared.Times.{Times}
 use Rattle.plan.specs.declared.Lookup.{Lookup}
 use Rattle.plan.specs.declared.Plan.{Plan}
 use Rattle.plan.specs.Limits.{maxNodes, reqids}
+use Rattle.plan.specs.Profile.{sleeps}
 use Rattle.plan.specs.Rules.{planRefusal}
 use Rattle.plan.specs.Answers.{masterNumber, isCounted, accepts}
 use Rattle.plan.specs.Find.{findRow}
@@ -90,16 +91,17 @@ module _ (m : Master) (h : Placed m) where
   permission-placed true = record { holds = h .holds; causes = h .causes; counts = h .counts }
   permission-placed false = called-back (m .phase) _ (record { holds = h .holds; causes = h .causes; counts = h .counts })
 
-  sleep-ask-placed : (nodecount : ℕ) (s : State) (q : Phase) → After (sleepAskBy nodecount s q m)
-  sleep-ask-placed nodecount State.Normal Phase.Open =
+  sleep-ask-placed : (nodecount : ℕ) (s : State) (sleeps : Bool) (q : Phase) → After (sleepAskBy nodecount s sleeps q m)
+  sleep-ask-placed nodecount State.Normal true Phase.Open =
       by-test After (m .permission)
       (λ y. by-test After (ltb (firstTo (notHeld (m .holds)) nodecount) nodecount) (λ l. h) (λ l. record { holds = h .holds; causes = h .causes; counts = h .counts }))
       (λ y. h)
-  sleep-ask-placed nodecount State.Normal Phase.Sending = h
-  sleep-ask-placed nodecount State.Normal Phase.Withdrawn = h
-  sleep-ask-placed nodecount State.Normal Phase.Closing = h
-  sleep-ask-placed nodecount State.Standby q = h
-  sleep-ask-placed nodecount State.Sleep q = h
+  sleep-ask-placed nodecount State.Normal true Phase.Sending = h
+  sleep-ask-placed nodecount State.Normal true Phase.Withdrawn = h
+  sleep-ask-placed nodecount State.Normal true Phase.Closing = h
+  sleep-ask-placed nodecount State.Normal false q = h
+  sleep-ask-placed nodecount State.Standby sleeps q = h
+  sleep-ask-placed nodecount State.Sleep sleeps q = h
 
   send-result-placed : (sent : Bool) (s : State) (q : Phase) → After (sendResultBy sent s q m)
   send-result-placed sent State.Normal Phase.Open = h
@@ -136,13 +138,13 @@ module _ (m : Master) (h : Placed m) where
   act-placed p Event.Pulse = wake-up-placed (m .state)
   act-placed p Event.WakeAsk = wake-up-placed (m .state)
   act-placed p (Event.Permission permitted) = permission-placed permitted
-  act-placed p Event.SleepAsk = sleep-ask-placed (p .nodecount) (m .state) (m .phase)
+  act-placed p Event.SleepAsk = sleep-ask-placed (p .nodecount) (m .state) (sleeps p) (m .phase)
   act-placed p (Event.SendResult sent) = send-result-placed sent (m .state) (m .phase)
 
   pub places-kept : (p : Plan) (e : Event) → Placed (masterStep p m e .master)
   places-kept p e =
       by-test After (eqb (planRefusal p) 0)
-      (λ a. by-test After (inRange (p .nodecount) (p .times) m)
+      (λ a. by-test After (inRange (sleeps p) (p .nodecount) (p .times) m)
       (λ b. by-test After (eventRight e) (λ c. act-placed p e) (λ c. h))
       (λ b. h))
       (λ a. h)

@@ -10,6 +10,7 @@ use Rattle.plan.specs.declared.Row.{Row}
 use Rattle.plan.specs.declared.Times.{Times}
 use Rattle.plan.specs.declared.Lookup.{Lookup}
 use Rattle.plan.specs.declared.Plan.{Plan}
+use Rattle.plan.specs.Profile.{sleeps}
 use Rattle.plan.specs.Rules.{planRefusal}
 use Rattle.plan.specs.Answers.{masterNumber, isCounted, accepts}
 use Rattle.plan.specs.Find.{findRow}
@@ -60,16 +61,17 @@ module _ (m : Master) where
   permission-plain true = done _ refl
   permission-plain false = done _ refl
 
-  sleep-ask-plain : (nodecount : ℕ) (s : State) (q : Phase) → Plain m (sleepAskBy nodecount s q m)
-  sleep-ask-plain nodecount State.Normal Phase.Open =
+  sleep-ask-plain : (nodecount : ℕ) (s : State) (sleeps : Bool) (q : Phase) → Plain m (sleepAskBy nodecount s sleeps q m)
+  sleep-ask-plain nodecount State.Normal true Phase.Open =
       by-test (Plain m) (m .permission)
       (λ y. by-test (Plain m) (ltb (firstTo (notHeld (m .holds)) nodecount) nodecount) (λ l. refused _ refl refl refl) (λ l. done _ refl))
       (λ y. refused _ refl refl refl)
-  sleep-ask-plain nodecount State.Normal Phase.Sending = refused _ refl refl refl
-  sleep-ask-plain nodecount State.Normal Phase.Withdrawn = refused _ refl refl refl
-  sleep-ask-plain nodecount State.Normal Phase.Closing = refused _ refl refl refl
-  sleep-ask-plain nodecount State.Standby q = refused _ refl refl refl
-  sleep-ask-plain nodecount State.Sleep q = refused _ refl refl refl
+  sleep-ask-plain nodecount State.Normal true Phase.Sending = refused _ refl refl refl
+  sleep-ask-plain nodecount State.Normal true Phase.Withdrawn = refused _ refl refl refl
+  sleep-ask-plain nodecount State.Normal true Phase.Closing = refused _ refl refl refl
+  sleep-ask-plain nodecount State.Normal false q = refused _ refl refl refl
+  sleep-ask-plain nodecount State.Standby sleeps q = refused _ refl refl refl
+  sleep-ask-plain nodecount State.Sleep sleeps q = refused _ refl refl refl
 
   send-result-plain : (sent : Bool) (s : State) (q : Phase) → Plain m (sendResultBy sent s q m)
   send-result-plain sent State.Normal Phase.Open = refused _ refl refl refl
@@ -101,13 +103,13 @@ module _ (m : Master) where
   act-plain p Event.Pulse = wake-up-plain (m .state)
   act-plain p Event.WakeAsk = wake-up-plain (m .state)
   act-plain p (Event.Permission permitted) = permission-plain permitted
-  act-plain p Event.SleepAsk = sleep-ask-plain (p .nodecount) (m .state) (m .phase)
+  act-plain p Event.SleepAsk = sleep-ask-plain (p .nodecount) (m .state) (sleeps p) (m .phase)
   act-plain p (Event.SendResult sent) = send-result-plain sent (m .state) (m .phase)
 
   pub refused-plain : (p : Plan) (e : Event) → Plain m (masterStep p m e)
   refused-plain p e =
       by-test (Plain m) (eqb (planRefusal p) 0)
-      (λ a. by-test (Plain m) (inRange (p .nodecount) (p .times) m)
+      (λ a. by-test (Plain m) (inRange (sleeps p) (p .nodecount) (p .times) m)
       (λ b. by-test (Plain m) (eventRight e) (λ c. act-plain p e) (λ c. refused _ refl refl refl))
       (λ b. refused _ refl refl refl))
       (λ a. refused _ refl refl refl)

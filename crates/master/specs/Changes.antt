@@ -47,14 +47,18 @@ abbrev pub noCounts : List ℕ
 noCounts = replicate reqids noCount
 
 -- "Power-on: Sleep, nothing held, own permission no, counts 4, numbers 0"
-abbrev pub powerOn : Master
-powerOn =
+abbrev pub asleep : Master
+asleep =
     record { state = State.Sleep; phase = Phase.Open; permission = false; holds = noHolds; causes = noCauses; counts = noCounts; delay = 0; ticks = 0 }
 
 -- another state; "Each change of state or phase sets the delay to 0"
 abbrev pub inState : State → Master → Master
 inState state m =
     record { state = state; phase = m .phase; permission = m .permission; holds = m .holds; causes = m .causes; counts = m .counts; delay = 0; ticks = m .ticks }
+
+-- W-206: machines that never sleep "start in Normal with the clock on"
+abbrev pub powerOn : Bool → Master
+powerOn sleeps = pick sleeps asleep (inState State.Normal asleep)
 
 abbrev pub inPhase : Phase → Master → Master
 inPhase phase m =

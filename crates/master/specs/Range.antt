@@ -1,6 +1,6 @@
 -- The limits of the master's fields, by which 11 is judged.
 use Prim.Native.Nat.{ℕ, _+_}
-use mathlib.Core.Bool.{Bool, true, false, not, _&&_}
+use mathlib.Core.Bool.{Bool, true, false, not, _&&_, _||_}
 use mathlib.Core.List.{List}
 use lib.Dec.{leb, ltb, eqb}
 use lib.ListN.{getD}
@@ -26,6 +26,12 @@ abbrev pub phaseRight : State → Phase → Bool
 phaseRight State.Normal phase = true
 phaseRight State.Standby phase = isOpen phase
 phaseRight State.Sleep phase = isOpen phase
+
+-- W-206: a machine that never sleeps is Normal, its phase Open
+abbrev pub isAwake : State → Phase → Bool
+isAwake State.Normal phase = isOpen phase
+isAwake State.Standby phase = false
+isAwake State.Sleep phase = false
 
 -- "a delay below C in Standby, below D in Closing, else 0"
 abbrev pub delayRight : Times → State → Phase → ℕ → Bool
@@ -59,7 +65,7 @@ unfoldable pub causesRight : Bool → ℕ → List Hold → List ℕ → Bool
 causesRight normal nodecount holds causes = allTo (causeRightAt normal nodecount holds causes) maxNodes
 
 -- "per ReqId a table of 128 places, last count 0 to 3 or 4 for none", and the others; any tick number of 32 bits
-unfoldable pub inRange : ℕ → Times → Master → Bool
-inRange nodecount t m =
-    phaseRight (m .state) (m .phase) && delayRight t (m .state) (m .phase) (m .delay) && countsBelow (noCount + 1) (m .counts)
+unfoldable pub inRange : Bool → ℕ → Times → Master → Bool
+inRange sleeps nodecount t m =
+    (sleeps || isAwake (m .state) (m .phase)) && phaseRight (m .state) (m .phase) && delayRight t (m .state) (m .phase) (m .delay) && countsBelow (noCount + 1) (m .counts)
     && (holdsRight nodecount (t .window) (m .holds) && causesRight (isNormal (m .state)) nodecount (m .holds) (m .causes))

@@ -29,17 +29,18 @@ openAsk nodecount m =
     (commands Command.SleepMessage (inPhase Phase.Sending m)))
     (refuse m 19)
 
--- "Sleep ask (Normal): 18 unless Open"
-abbrev pub sleepAskBy : ℕ → State → Phase → Master → Reply
-sleepAskBy nodecount State.Normal Phase.Open m = openAsk nodecount m
-sleepAskBy nodecount State.Normal Phase.Sending m = refuse m 18
-sleepAskBy nodecount State.Normal Phase.Withdrawn m = refuse m 18
-sleepAskBy nodecount State.Normal Phase.Closing m = refuse m 18
-sleepAskBy nodecount State.Standby phase m = refuse m 16
-sleepAskBy nodecount State.Sleep phase m = refuse m 16
+-- "Sleep ask (Normal): 18 unless Open"; W-206: 25, "sleep ask .. under this profile, right after 16"
+abbrev pub sleepAskBy : ℕ → State → Bool → Phase → Master → Reply
+sleepAskBy nodecount State.Normal true Phase.Open m = openAsk nodecount m
+sleepAskBy nodecount State.Normal true Phase.Sending m = refuse m 18
+sleepAskBy nodecount State.Normal true Phase.Withdrawn m = refuse m 18
+sleepAskBy nodecount State.Normal true Phase.Closing m = refuse m 18
+sleepAskBy nodecount State.Normal false phase m = refuse m 25
+sleepAskBy nodecount State.Standby sleeps phase m = refuse m 16
+sleepAskBy nodecount State.Sleep sleeps phase m = refuse m 16
 
-abbrev pub sleepAskStep : ℕ → Master → Reply
-sleepAskStep nodecount m = sleepAskBy nodecount (m .state) (m .phase) m
+abbrev pub sleepAskStep : Bool → ℕ → Master → Reply
+sleepAskStep sleeps nodecount m = sleepAskBy nodecount (m .state) sleeps (m .phase) m
 
 -- "Send result (Normal; 17 unless Sending or Withdrawn): Withdrawn goes Open; Sending goes Closing if sent, Open if failed"
 abbrev pub sendResultBy : Bool → State → Phase → Master → Reply

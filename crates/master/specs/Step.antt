@@ -7,6 +7,7 @@ use Rattle.plan.specs.declared.Times.{Times}
 use Rattle.plan.specs.declared.Plan.{Plan}
 use Rattle.plan.specs.declared.Lookup.{Lookup}
 use Rattle.plan.specs.Limits.{reqids, seqCounts}
+use Rattle.plan.specs.Profile.{sleeps}
 use Rattle.plan.specs.Rules.{planRefusal}
 use Rattle.plan.specs.Find.{findRow}
 use Rattle.master.specs.declared.Master.{Master}
@@ -39,29 +40,30 @@ rowAsked p (Event.Permission permitted) = Lookup.Missing
 rowAsked p Event.SleepAsk = Lookup.Missing
 rowAsked p (Event.SendResult sent) = Lookup.Missing
 
--- what each event does, 16 and the later numbers included, by what it needs of a plan: the number of nodes, the times and the row asked for
-abbrev pub actWith : ℕ → Times → Lookup → Master → Event → Reply
-actWith nodecount t row m Event.Tick = tickStep t m
-actWith nodecount t row m (Event.Answer a) = answerStep row a m
-actWith nodecount t row m Event.Pulse = wakeUpStep m
-actWith nodecount t row m Event.WakeAsk = wakeUpStep m
-actWith nodecount t row m (Event.Permission permitted) = permissionStep permitted m
-actWith nodecount t row m Event.SleepAsk = sleepAskStep nodecount m
-actWith nodecount t row m (Event.SendResult sent) = sendResultStep sent m
+-- what each event does, 16 and the later numbers included, by what it needs of a plan: whether its machines sleep, the number of nodes, the times
+-- and the row asked for
+abbrev pub actWith : Bool → ℕ → Times → Lookup → Master → Event → Reply
+actWith sleeps nodecount t row m Event.Tick = tickStep t m
+actWith sleeps nodecount t row m (Event.Answer a) = answerStep row a m
+actWith sleeps nodecount t row m Event.Pulse = wakeUpStep m
+actWith sleeps nodecount t row m Event.WakeAsk = wakeUpStep m
+actWith sleeps nodecount t row m (Event.Permission permitted) = permissionStep permitted m
+actWith sleeps nodecount t row m Event.SleepAsk = sleepAskStep sleeps nodecount m
+actWith sleeps nodecount t row m (Event.SendResult sent) = sendResultStep sent m
 
 -- "then 11, 15, 16, then the rest by number", where the plan is judged
-abbrev pub stepWith : ℕ → Times → Lookup → Master → Event → Reply
-stepWith nodecount t row m e =
-    pick (inRange nodecount t m)
-    (pick (eventRight e) (actWith nodecount t row m e) (refuse m 15))
+abbrev pub stepWith : Bool → ℕ → Times → Lookup → Master → Event → Reply
+stepWith sleeps nodecount t row m e =
+    pick (inRange sleeps nodecount t m)
+    (pick (eventRight e) (actWith sleeps nodecount t row m e) (refuse m 15))
     (refuse m 11)
 
 -- the same under a plan
 abbrev pub act : Plan → Master → Event → Reply
-act p m e = actWith (p .nodecount) (p .times) (rowAsked p e) m e
+act p m e = actWith (sleeps p) (p .nodecount) (p .times) (rowAsked p e) m e
 
 abbrev pub stepUnder : Plan → Master → Event → Reply
-stepUnder p m e = stepWith (p .nodecount) (p .times) (rowAsked p e) m e
+stepUnder p m e = stepWith (sleeps p) (p .nodecount) (p .times) (rowAsked p e) m e
 
 -- "plan 4 to 8 first", and 3 "before 4", where the plan's number is known
 abbrev pub judgedStep : ℕ → Plan → Master → Event → Reply

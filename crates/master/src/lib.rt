@@ -176,10 +176,11 @@ impl Master {
 
     pub const WAKE: u8 = 4;
 
-    pub fn power_on() -> Master
-        ensures { λ r. ⌜ r ≡ powerOn ⌝ }
+    // A machine that never sleeps starts in Normal.
+    pub fn power_on(sleeps: bool) -> Master
+        ensures { λ r. ⌜ r ≡ powerOn sleeps ⌝ }
     {
-        Master {
+        let asleep = Master {
             state: State::Sleep,
             phase: Phase::Open,
             permission: false,
@@ -188,12 +189,27 @@ impl Master {
             counts: [Master::NO_COUNT; Row::REQIDS],
             delay: 0,
             ticks: 0,
+        };
+        if sleeps {
+            asleep
+        } else {
+            Master {
+                state: State::Normal,
+                ..asleep
+            }
         }
     }
 
     // What an event does once plan, state and event are judged.
-    fn act_with(self, nodecount: u8, times: Times, row: Lookup, event: Event) -> Reply
-        ensures { λ r. ⌜ r ≡ actWith nodecount times row self event ⌝ }
+    fn act_with(
+        self,
+        sleeps: bool,
+        nodecount: u8,
+        times: Times,
+        row: Lookup,
+        event: Event,
+    ) -> Reply
+        ensures { λ r. ⌜ r ≡ actWith sleeps nodecount times row self event ⌝ }
     {
         match event {
             Event::Tick => self.tick(times),
@@ -201,18 +217,25 @@ impl Master {
             Event::Pulse => self.wake_up(),
             Event::WakeAsk => self.wake_up(),
             Event::Permission(permitted) => self.permit(permitted),
-            Event::SleepAsk => self.sleep_ask(nodecount),
+            Event::SleepAsk => self.sleep_ask(sleeps, nodecount),
             Event::SendResult(sent) => self.send_result(sent),
         }
     }
 
     // A step of the master with what it needs of a plan that is judged: the row is the one that the event asks for.
-    pub fn step_with(self, nodecount: u8, times: Times, row: Lookup, event: Event) -> Reply
-        ensures { λ r. ⌜ r ≡ stepWith nodecount times row self event ⌝ }
+    pub fn step_with(
+        self,
+        sleeps: bool,
+        nodecount: u8,
+        times: Times,
+        row: Lookup,
+        event: Event,
+    ) -> Reply
+        ensures { λ r. ⌜ r ≡ stepWith sleeps nodecount times row self event ⌝ }
     {
-        if self.in_range(nodecount, times) {
+        if self.in_range(sleeps, nodecount, times) {
             if is_right(event) {
-                self.act_with(nodecount, times, row, event)
+                self.act_with(sleeps, nodecount, times, row, event)
             } else {
                 refuse(self, 15)
             }
@@ -227,7 +250,7 @@ impl Master {
     {
         let times = plan.times;
         let row = row_asked(plan, event);
-        self.step_with(plan.nodecount, times, row, event)
+        self.step_with(plan.sleeps(), plan.nodecount, times, row, event)
     }
 
     // A step of the master under a plan whose refusal is known, so that a list of events has it judged once.

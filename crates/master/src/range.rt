@@ -1,7 +1,7 @@
 // The limits of the master's fields.
 ghost use mathlib.Core.Path.{_≡_};
 ghost use mathlib.Core.Bool.{_&&_};
-ghost use Rattle.master.specs.Range.{phaseRight, delayRight, holdRight, holdsRight, causeRight, causesRight, inRange};
+ghost use Rattle.master.specs.Range.{phaseRight, isAwake, delayRight, holdRight, holdsRight, causeRight, causesRight, inRange};
 use crate::Hold;
 use crate::Master;
 use crate::Phase;
@@ -28,6 +28,21 @@ fn phase_right(state: State, phase: Phase) -> bool
             Phase::Withdrawn => false,
             Phase::Closing => false,
         },
+    }
+}
+
+fn is_awake(state: State, phase: Phase) -> bool
+    ensures { λ r. ⌜ r ≡ isAwake state phase ⌝ }
+{
+    match state {
+        State::Normal => match phase {
+            Phase::Open => true,
+            Phase::Sending => false,
+            Phase::Withdrawn => false,
+            Phase::Closing => false,
+        },
+        State::Standby => false,
+        State::Sleep => false,
     }
 }
 
@@ -89,15 +104,16 @@ fn nodes_right(
 }
 
 impl Master {
-    pub fn in_range(self, nodecount: u8, times: Times) -> bool
-        ensures { λ r. ⌜ r ≡ inRange nodecount times self ⌝ }
+    pub fn in_range(self, sleeps: bool, nodecount: u8, times: Times) -> bool
+        ensures { λ r. ⌜ r ≡ inRange sleeps nodecount times self ⌝ }
     {
         let state = self.state;
         let phase = self.phase;
         let counts = self.counts;
         let holds = self.holds;
         let causes = self.causes;
-        phase_right(state, phase)
+        (sleeps | is_awake(state, phase))
+            & phase_right(state, phase)
             & delay_right(times, state, phase, self.delay)
             & counts_below(counts, Master::NO_COUNT + 1)
             & nodes_right(is_normal(state), nodecount, times.window, holds, causes)

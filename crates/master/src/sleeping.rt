@@ -34,18 +34,24 @@ impl Master {
         }
     }
 
-    pub fn sleep_ask(self, nodecount: u8) -> Reply
-        ensures { λ r. ⌜ r ≡ sleepAskStep nodecount self ⌝ }
+    pub fn sleep_ask(self, sleeps: bool, nodecount: u8) -> Reply
+        ensures { λ r. ⌜ r ≡ sleepAskStep sleeps nodecount self ⌝ }
     {
         let state = self.state;
         let phase = self.phase;
         match state {
-            State::Normal => match phase {
-                Phase::Open => self.open_ask(nodecount),
-                Phase::Sending => refuse(self, 18),
-                Phase::Withdrawn => refuse(self, 18),
-                Phase::Closing => refuse(self, 18),
-            },
+            State::Normal => {
+                if sleeps {
+                    match phase {
+                        Phase::Open => self.open_ask(nodecount),
+                        Phase::Sending => refuse(self, 18),
+                        Phase::Withdrawn => refuse(self, 18),
+                        Phase::Closing => refuse(self, 18),
+                    }
+                } else {
+                    refuse(self, 25)
+                }
+            }
             State::Standby => refuse(self, 16),
             State::Sleep => refuse(self, 16),
         }

@@ -1,8 +1,11 @@
 -- By what each test ensures. Assumes nothing.
-use Rattle.master.specs.Range.{inRange}
 use borrow.Author.Needs.{needs}
+use Rattle.master.specs.Range.{inRange}
 use Rattle.master.proofs.Master.in_range.Statement.{statement}
 use Rattle.master.proofs.Master.in_range.Tie as tie
+
+is-awake-requires : tie.Need-is-awake-requires
+is-awake-requires c κs = search needs
 
 phase-right-requires : tie.Need-phase-right-requires
 phase-right-requires c κs = search needs
@@ -31,12 +34,14 @@ returns c =
       c .before .before .counts-below .ensures,
       c .before .before .before .delay-right .ensures,
       c .before .before .before .before .phase-right .ensures,
+      c .before .before .before .before .before .is-awake .ensures,
     )
 
 pub in-range-spec : {M : Type 1} → statement M
 in-range-spec =
     tie.close
     (tie.spec
+    is-awake-requires
     phase-right-requires
     delay-right-requires
     add-counts-below

@@ -1,4 +1,3 @@
--- The step with what it needs of the plan. Assumes nothing.
 use borrow.Author.Needs.{needs}
 use Rattle.master.proofs.Master.step_under.Statement.{statement}
 use Rattle.master.proofs.Master.step_under.Tie as tie
@@ -6,11 +5,20 @@ use Rattle.master.proofs.Master.step_under.Tie as tie
 row-asked-requires : tie.Need-row-asked-requires
 row-asked-requires c κs = search needs
 
+sleeps-requires : tie.Need-sleeps-requires
+sleeps-requires c κs = search needs
+
 step-with-requires : tie.Need-step-with-requires
 step-with-requires c κs = search needs
 
 returns : tie.Need-returns
-returns c = rw (c .step-with .ensures, c .before .row-asked .ensures)
+returns c =
+    rw (
+        c .step-with .ensures,
+        c .before .sleeps .ensures,
+        c .before .before .row-asked .ensures,
+    )
 
 pub step-under-spec : {M : Type 1} → statement M
-step-under-spec = tie.close (tie.spec row-asked-requires step-with-requires returns)
+step-under-spec =
+    tie.close (tie.spec row-asked-requires sleeps-requires step-with-requires returns)
