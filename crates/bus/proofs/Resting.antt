@@ -20,21 +20,21 @@ use Rattle.bus.specs.declared.Message.{Message}
 use Rattle.bus.specs.Pulses.{otherCalled, receive, receiveIf}
 use Rattle.bus.specs.Resting.{restsBy, rests, ignoresRow, ignores, untouched}
 
-normal-still : (t : Times) (clock : Bool) (delay : Delay) (n : Node) → restsBy clock State.Normal delay n ≡ true → normalBy t clock delay n ≡ silent n
-normal-still t false Delay.Off n e = no-way e
-normal-still t true Delay.Off n e =
+normal-still : (sleeps : Bool) (t : Times) (clock : Bool) (delay : Delay) (n : Node) → restsBy clock State.Normal delay n ≡ true → normalBy sleeps t clock delay n ≡ silent n
+normal-still sleeps t false Delay.Off n e = no-way e
+normal-still sleeps t true Delay.Off n e =
     let h = and-eq-true-iff (not (n .error)) (eqb (n .quiet) 0) .0 e in
     ap₂ (λ ticks error. silent (withQuiet ticks error n)) (sym (eqb-true (n .quiet) 0 (h .1))) (sym (not-true (n .error) (h .0)))
-normal-still t clock (Delay.On ticks) n e = no-way e
+normal-still sleeps t clock (Delay.On ticks) n e = no-way e
 
-still-by : (t : Times) (clock : Bool) (state : State) (n : Node) → restsBy clock state (n .delay) n ≡ true → tickBy t clock state n ≡ silent n
-still-by t clock State.Normal n e = normal-still t clock (n .delay) n e
-still-by t clock State.Standby n e = no-way e
-still-by t true State.Sleep n e = no-way e
-still-by t false State.Sleep n e = refl
+still-by : (sleeps : Bool) (t : Times) (clock : Bool) (state : State) (n : Node) → restsBy clock state (n .delay) n ≡ true → tickBy sleeps t clock state n ≡ silent n
+still-by sleeps t clock State.Normal n e = normal-still sleeps t clock (n .delay) n e
+still-by sleeps t clock State.Standby n e = no-way e
+still-by sleeps t true State.Sleep n e = no-way e
+still-by sleeps t false State.Sleep n e = refl
 
-pub rests-still : (t : Times) (clock : Bool) (n : Node) → rests clock n ≡ true → tickStep t clock n ≡ silent n
-rests-still t clock n e = still-by t clock (n .state) n e
+pub rests-still : (sleeps : Bool) (t : Times) (clock : Bool) (n : Node) → rests clock n ≡ true → tickStep sleeps t clock n ≡ silent n
+rests-still sleeps t clock n e = still-by sleeps t clock (n .state) n e
 
 pulse-still : (state : State) (n : Node) → isNormal state ≡ true → pulseBy state n .node ≡ n
 pulse-still State.Normal n e = refl

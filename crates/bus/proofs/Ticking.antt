@@ -16,17 +16,17 @@ use Rattle.bus.specs.Pulses.{anyCalled, spread}
 use Rattle.bus.specs.Ticks.{tickNodes, tickAfter, tickMove}
 use Rattle.bus.specs.Passed.{ticked}
 
-module _ (t : Times) (count : ℕ) (bus : Bus) (w : World) {reply : Reply} {clock off called : Bool} {nodes : Ticked} {passed : Passed}
-    (a : reply ≡ tickStep t (w .master)) (b : clock ≡ clockOn (reply .master)) (c : nodes ≡ tickNodes t clock count (w .nodes))
+module _ (sleeps : Bool) (t : Times) (count : ℕ) (bus : Bus) (w : World) {reply : Reply} {clock off called : Bool} {nodes : Ticked} {passed : Passed}
+    (a : reply ≡ tickStep t (w .master)) (b : clock ≡ clockOn (reply .master)) (c : nodes ≡ tickNodes sleeps t clock count (w .nodes))
     (d : off ≡ isOff (reply .command)) (e : called ≡ anyCalled (nodes .callers)) (f : passed ≡ ticked clock off (called && bus .master)) where
   abbrev before : World
   before = record { master = reply .master; nodes = nodes .nodes }
 
-  pub tick-gives : {after : World} → after ≡ spread count (nodes .callers) bus before → _≡_ {A = Moved} (record { world = after; refusal = reply .refusal; passed = passed }) (tickMove t count bus w)
-  tick-gives g = rw (g, f, d, e, b) (ap₂ (tickAfter count bus) a (c ∙ ap (λ x. tickNodes t x count (w .nodes)) (b ∙ ap (λ (r : Reply). clockOn (r .master)) a)))
+  pub tick-gives : {after : World} → after ≡ spread count (nodes .callers) bus before → _≡_ {A = Moved} (record { world = after; refusal = reply .refusal; passed = passed }) (tickMove sleeps t count bus w)
+  tick-gives g = rw (g, f, d, e, b) (ap₂ (tickAfter count bus) a (c ∙ ap (λ x. tickNodes sleeps t x count (w .nodes)) (b ∙ ap (λ (r : Reply). clockOn (r .master)) a)))
 
   -- nobody called
-  pub quiet-tick : called ≡ false → _≡_ {A = Moved} (record { world = before; refusal = reply .refusal; passed = passed }) (tickMove t count bus w)
+  pub quiet-tick : called ≡ false → _≡_ {A = Moved} (record { world = before; refusal = reply .refusal; passed = passed }) (tickMove sleeps t count bus w)
   quiet-tick g = tick-gives (alone _ _ (sym e ∙ g))
     where
       alone : (x : Bool) (heard : World) → x ≡ false → before ≡ pick x heard before

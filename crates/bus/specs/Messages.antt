@@ -127,8 +127,8 @@ sendingBy MasterCommand.Command.SleepMessage = sending
 abbrev pub sleepAskAfter : World → MasterReply.Reply → Moved
 sleepAskAfter w reply = record { world = withMaster (reply .master) w; refusal = reply .refusal; passed = sendingBy (reply .command) }
 
-abbrev pub sleepAskMove : ℕ → World → Moved
-sleepAskMove nodecount w = sleepAskAfter w (sleepAskStep nodecount (w .master))
+abbrev pub sleepAskMove : Bool → ℕ → World → Moved
+sleepAskMove sleeps nodecount w = sleepAskAfter w (sleepAskStep sleeps nodecount (w .master))
 
 -- "it then awaits its result and reaches any set of nodes with the result"; "a refused `sent` reaches nobody"
 abbrev pub resultAfter : ℕ → Bool → Bus → World → MasterReply.Reply → Moved

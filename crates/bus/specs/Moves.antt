@@ -2,6 +2,7 @@
 use lib.Dec.{eqb}
 use Rattle.folds.specs.Fold.{pick}
 use Rattle.plan.specs.declared.Plan.{Plan}
+use Rattle.plan.specs.Profile.{sleeps}
 use Rattle.plan.specs.Rules.{planRefusal}
 use Rattle.bus.specs.declared.Act.{Act}
 use Rattle.bus.specs.declared.Bus.{Bus}
@@ -16,14 +17,14 @@ use Rattle.bus.specs.World.{nodesUsed, stays}
 
 -- "Moves are: a tick; an ask to wake or a permission, a node's or the master's; a request; a node's ask to send; a sleep ask; a send result"
 abbrev pub actBy : Plan → World → Bus → Act → Moved
-actBy p w bus Act.Tick = tickMove (p .times) (nodesUsed (p .nodecount)) bus w
-actBy p w bus (Act.NodeWakeAsk node) = nodeWakeAsk (nodesUsed (p .nodecount)) node bus w
+actBy p w bus Act.Tick = tickMove (sleeps p) (p .times) (nodesUsed (p .nodecount)) bus w
+actBy p w bus (Act.NodeWakeAsk node) = nodeWakeAsk (sleeps p) (nodesUsed (p .nodecount)) node bus w
 actBy p w bus Act.MasterWakeAsk = masterWakeAsk w
-actBy p w bus (Act.NodePermission node permitted) = nodePermission (nodesUsed (p .nodecount)) node permitted w
+actBy p w bus (Act.NodePermission node permitted) = nodePermission (sleeps p) (nodesUsed (p .nodecount)) node permitted w
 actBy p w bus (Act.MasterPermission permitted) = masterPermission permitted w
 actBy p w bus (Act.Request reqid) = requestMove p (nodesUsed (p .nodecount)) reqid bus w
 actBy p w bus (Act.SendAsk node reqid) = sendAskMove p (nodesUsed (p .nodecount)) node reqid bus w
-actBy p w bus Act.SleepAsk = sleepAskMove (p .nodecount) w
+actBy p w bus Act.SleepAsk = sleepAskMove (sleeps p) (p .nodecount) w
 actBy p w bus (Act.SendResult sent) = sendResultMove (nodesUsed (p .nodecount)) sent bus w
 
 -- what a move does, once plan and world are judged
@@ -34,5 +35,5 @@ worldAct p w m = actBy p w (m .bus) (m .act)
 abbrev pub worldStep : Plan → World → Move → Moved
 worldStep p w m =
     pick (eqb (planRefusal p) 0)
-    (pick (worldInRange (p .nodecount) (p .times) w) (worldAct p w m) (stays w 11))
+    (pick (worldInRange (sleeps p) (p .nodecount) (p .times) w) (worldAct p w m) (stays w 11))
     (stays w (planRefusal p))

@@ -30,8 +30,8 @@ wakeAskAfter count node bus w reply callers =
 abbrev pub wakeAskBy : ℕ → ℕ → Bus → World → Reply → Moved
 wakeAskBy count node bus w reply = wakeAskAfter count node bus w reply (withCaller Callers.Nobody node (reply .command))
 
-abbrev pub nodeWakeAsk : ℕ → ℕ → Bus → World → Moved
-nodeWakeAsk count node bus w = ofNode count node w (wakeAskBy count node bus w (NodeWaking.wakeAskStep (nodeAt (w .nodes) node)))
+abbrev pub nodeWakeAsk : Bool → ℕ → ℕ → Bus → World → Moved
+nodeWakeAsk sleeps count node bus w = ofNode count node w (wakeAskBy count node bus w (NodeWaking.wakeAskStep sleeps (nodeAt (w .nodes) node)))
 
 abbrev pub masterWakeAsk : World → Moved
 masterWakeAsk w =
@@ -41,8 +41,9 @@ abbrev pub permissionBy : ℕ → Bool → World → Reply → Moved
 permissionBy node permitted w reply =
     record { world = withNode node (reply .node) w; refusal = reply .refusal; passed = nodePermits node permitted }
 
-abbrev pub nodePermission : ℕ → ℕ → Bool → World → Moved
-nodePermission count node permitted w = ofNode count node w (permissionBy node permitted w (NodeWaking.permissionStep permitted (nodeAt (w .nodes) node)))
+abbrev pub nodePermission : Bool → ℕ → ℕ → Bool → World → Moved
+nodePermission sleeps count node permitted w =
+    ofNode count node w (permissionBy node permitted w (NodeWaking.permissionStep sleeps permitted (nodeAt (w .nodes) node)))
 
 abbrev pub masterPermission : Bool → World → Moved
 masterPermission permitted w =

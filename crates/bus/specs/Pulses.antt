@@ -44,11 +44,11 @@ otherCalled Callers.Nobody me = false
 otherCalled (Callers.One caller) me = not (eqb caller me)
 otherCalled Callers.Several me = true
 
--- what a message that reaches node `me` does there
+-- what a message that reaches node `me` does there; a master sends a sleep message only where machines sleep
 abbrev pub receive : Message → ℕ → Node → Node
 receive (Message.Pulse callers) me n = pick (otherCalled callers me) (pulseStep n .node) n
 receive (Message.Request row) me n = requestStep me row n .node
-receive Message.SleepMessage me n = sleepMessageStep n .node
+receive Message.SleepMessage me n = sleepMessageStep true n .node
 
 abbrev pub receiveIf : Bool → Message → ℕ → Node → Node
 receiveIf reached message me n = pick reached (receive message me n) n

@@ -10,8 +10,8 @@ use Rattle.master.specs.Range as MasterRange
 use Rattle.bus.specs.declared.World.{World}
 use Rattle.bus.specs.World.{nodesUsed, nodeAt}
 
-unfoldable pub nodeInRange : Times → List Node → ℕ → Bool
-nodeInRange t nodes k = NodeRange.inRange t (nodeAt nodes k)
+unfoldable pub nodeInRange : Bool → Times → List Node → ℕ → Bool
+nodeInRange sleeps t nodes k = NodeRange.inRange sleeps t (nodeAt nodes k)
 
-unfoldable pub worldInRange : ℕ → Times → World → Bool
-worldInRange nodecount t w = MasterRange.inRange nodecount t (w .master) && allTo (nodeInRange t (w .nodes)) (nodesUsed nodecount)
+unfoldable pub worldInRange : Bool → ℕ → Times → World → Bool
+worldInRange sleeps nodecount t w = MasterRange.inRange sleeps nodecount t (w .master) && allTo (nodeInRange sleeps t (w .nodes)) (nodesUsed nodecount)

@@ -18,14 +18,14 @@ use Rattle.bus.specs.Pulses.{callersTo, anyCalled, spread}
 use Rattle.bus.specs.Passed.{ticked}
 use Rattle.bus.specs.World.{nodeAt}
 
-abbrev pub tickedNodes : Times → Bool → ℕ → List Node → List Node
-tickedNodes t clock count nodes = eachTo (λ k n. NodeTicks.tickStep t clock n .node) count nodes
+abbrev pub tickedNodes : Bool → Times → Bool → ℕ → List Node → List Node
+tickedNodes sleeps t clock count nodes = eachTo (λ k n. NodeTicks.tickStep sleeps t clock n .node) count nodes
 
-abbrev pub tickCallers : Times → Bool → ℕ → List Node → Callers
-tickCallers t clock count nodes = callersTo (λ k. NodeTicks.tickStep t clock (nodeAt nodes k) .command) count
+abbrev pub tickCallers : Bool → Times → Bool → ℕ → List Node → Callers
+tickCallers sleeps t clock count nodes = callersTo (λ k. NodeTicks.tickStep sleeps t clock (nodeAt nodes k) .command) count
 
-abbrev pub tickNodes : Times → Bool → ℕ → List Node → Ticked
-tickNodes t clock count nodes = record { nodes = tickedNodes t clock count nodes; callers = tickCallers t clock count nodes }
+abbrev pub tickNodes : Bool → Times → Bool → ℕ → List Node → Ticked
+tickNodes sleeps t clock count nodes = record { nodes = tickedNodes sleeps t clock count nodes; callers = tickCallers sleeps t clock count nodes }
 
 -- the master's reply to its tick, then the nodes
 abbrev pub tickAfter : ℕ → Bus → Reply → Ticked → Moved
@@ -36,6 +36,6 @@ tickAfter count bus reply nodes =
       passed = ticked (clockOn (reply .master)) (isOff (reply .command)) (anyCalled (nodes .callers) && bus .master);
     }
 
-abbrev pub tickMove : Times → ℕ → Bus → World → Moved
-tickMove t count bus w =
-    tickAfter count bus (MasterTicks.tickStep t (w .master)) (tickNodes t (clockOn (MasterTicks.tickStep t (w .master) .master)) count (w .nodes))
+abbrev pub tickMove : Bool → Times → ℕ → Bus → World → Moved
+tickMove sleeps t count bus w =
+    tickAfter count bus (MasterTicks.tickStep t (w .master)) (tickNodes sleeps t (clockOn (MasterTicks.tickStep t (w .master) .master)) count (w .nodes))

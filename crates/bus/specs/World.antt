@@ -1,6 +1,6 @@
 -- The machines on the bus, and what a move gives.
 use Prim.Native.Nat.{ℕ, min}
-use mathlib.Core.Bool.{false}
+use mathlib.Core.Bool.{Bool, false}
 use mathlib.Core.List.{List, []}
 use lib.ListN.{getD, set, replicate}
 use Rattle.machine.specs.declared.State.{State}
@@ -15,8 +15,8 @@ use Rattle.bus.specs.declared.Moved.{Moved}
 use Rattle.bus.specs.Passed.{nothing}
 
 -- "The first starts from power-on"
-abbrev pub powerOn : World
-powerOn = record { master = MasterChanges.powerOn; nodes = replicate maxNodes NodeChanges.powerOn }
+abbrev pub powerOn : Bool → World
+powerOn sleeps = record { master = MasterChanges.powerOn sleeps; nodes = replicate maxNodes (NodeChanges.powerOn sleeps) }
 
 -- of so many nodes those that a world has places for: all of an accepted plan's
 abbrev pub nodesUsed : ℕ → ℕ

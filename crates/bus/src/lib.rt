@@ -171,12 +171,12 @@ fn nodes_used(nodecount: u8) -> u8
 }
 
 impl World {
-    pub fn power_on() -> World
-        ensures { λ r. ⌜ r ≡ powerOn ⌝ }
+    pub fn power_on(sleeps: bool) -> World
+        ensures { λ r. ⌜ r ≡ powerOn sleeps ⌝ }
     {
-        let node = Node::power_on();
+        let node = Node::power_on(sleeps);
         World {
-            master: Master::power_on(),
+            master: Master::power_on(sleeps),
             nodes: [node; Plan::NODES],
         }
     }
@@ -189,17 +189,18 @@ impl World {
         let bus = movement.bus;
         let times = plan.times;
         let count = nodes_used(plan.nodecount);
+        let sleeps = plan.sleeps();
         match act {
-            Act::Tick => self.tick(count, times, bus),
-            Act::NodeWakeAsk(node) => self.node_wake_ask(count, node, bus),
+            Act::Tick => self.tick(sleeps, count, times, bus),
+            Act::NodeWakeAsk(node) => self.node_wake_ask(sleeps, count, node, bus),
             Act::MasterWakeAsk => self.master_wake_ask(),
             Act::NodePermission { node, permitted } => {
-                self.node_permission(count, node, permitted)
+                self.node_permission(sleeps, count, node, permitted)
             }
             Act::MasterPermission(permitted) => self.master_permission(permitted),
             Act::Request(reqid) => self.request(plan, count, reqid, bus),
             Act::SendAsk { node, reqid } => self.send_ask(plan, count, node, reqid, bus),
-            Act::SleepAsk => self.sleep_ask(plan.nodecount),
+            Act::SleepAsk => self.sleep_ask(sleeps, plan.nodecount),
             Act::SendResult(sent) => self.send_result(count, sent, bus),
         }
     }
@@ -211,7 +212,7 @@ impl World {
         let refusal = plan_refusal(plan);
         if refusal == 0 {
             let times = plan.times;
-            if self.in_range(plan.nodecount, times) {
+            if self.in_range(plan.sleeps(), plan.nodecount, times) {
                 self.act(plan, movement)
             } else {
                 stays(self, 11)

@@ -238,11 +238,11 @@ impl World {
         }
     }
 
-    pub(crate) fn sleep_ask(self, nodecount: u8) -> Moved
-        ensures { λ r. ⌜ r ≡ sleepAskMove nodecount self ⌝ }
+    pub(crate) fn sleep_ask(self, sleeps: bool, nodecount: u8) -> Moved
+        ensures { λ r. ⌜ r ≡ sleepAskMove sleeps nodecount self ⌝ }
     {
         let master = self.master;
-        let reply = master.sleep_ask(nodecount);
+        let reply = master.sleep_ask(sleeps, nodecount);
         let next = reply.master;
         let command = reply.command;
         Moved {

@@ -13,14 +13,14 @@ use crate::pulses::with_caller;
 use crate::stays;
 
 impl World {
-    pub(crate) fn node_wake_ask(self, count: u8, node: u8, bus: Bus) -> Moved
+    pub(crate) fn node_wake_ask(self, sleeps: bool, count: u8, node: u8, bus: Bus) -> Moved
         requires { ⌜ count ≤ maxNodes ⌝ }
-        ensures { λ r. ⌜ r ≡ nodeWakeAsk count node bus self ⌝ }
+        ensures { λ r. ⌜ r ≡ nodeWakeAsk sleeps count node bus self ⌝ }
     {
         if node < count {
             let mut nodes = self.nodes;
             let asked = nodes[node as usize];
-            let reply = asked.wake_ask();
+            let reply = asked.wake_ask(sleeps);
             let command = reply.command;
             let callers = with_caller(Callers::Nobody, node, command);
             let next = reply.node;
@@ -52,14 +52,20 @@ impl World {
         }
     }
 
-    pub(crate) fn node_permission(self, count: u8, node: u8, permitted: bool) -> Moved
+    pub(crate) fn node_permission(
+        self,
+        sleeps: bool,
+        count: u8,
+        node: u8,
+        permitted: bool,
+    ) -> Moved
         requires { ⌜ count ≤ maxNodes ⌝ }
-        ensures { λ r. ⌜ r ≡ nodePermission count node permitted self ⌝ }
+        ensures { λ r. ⌜ r ≡ nodePermission sleeps count node permitted self ⌝ }
     {
         if node < count {
             let mut nodes = self.nodes;
             let told = nodes[node as usize];
-            let reply = told.permit(permitted);
+            let reply = told.permit(sleeps, permitted);
             let next = reply.node;
             nodes[node as usize] = next;
             Moved {

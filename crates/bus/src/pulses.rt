@@ -69,7 +69,8 @@ fn receive(node: Node, me: u8, message: Message) -> Node
             reply.node
         }
         Message::SleepMessage => {
-            let reply = node.sleep_message();
+            // a master sends one only where machines sleep
+            let reply = node.sleep_message(true);
             reply.node
         }
     }

@@ -10,14 +10,14 @@ use node::Node;
 use plan::Plan;
 use plan::Times;
 
-fn nodes_in_range(nodes: [Node; Plan::NODES], count: u8, times: Times) -> bool
+fn nodes_in_range(nodes: [Node; Plan::NODES], sleeps: bool, count: u8, times: Times) -> bool
     requires { ⌜ count ≤ maxNodes ⌝ }
-    ensures { λ r. ⌜ r ≡ allTo (nodeInRange times nodes) count ⌝ }
+    ensures { λ r. ⌜ r ≡ allTo (nodeInRange sleeps times nodes) count ⌝ }
 {
     let mut i: u8 = 0;
     while i < count {
         let node = nodes[i as usize];
-        if !node.in_range(times) {
+        if !node.in_range(sleeps, times) {
             return false;
         }
         i += 1;
@@ -26,11 +26,12 @@ fn nodes_in_range(nodes: [Node; Plan::NODES], count: u8, times: Times) -> bool
 }
 
 impl World {
-    pub fn in_range(self, nodecount: u8, times: Times) -> bool
-        ensures { λ r. ⌜ r ≡ worldInRange nodecount times self ⌝ }
+    pub fn in_range(self, sleeps: bool, nodecount: u8, times: Times) -> bool
+        ensures { λ r. ⌜ r ≡ worldInRange sleeps nodecount times self ⌝ }
     {
         let master = self.master;
         let nodes = self.nodes;
-        master.in_range(nodecount, times) & nodes_in_range(nodes, nodes_used(nodecount), times)
+        master.in_range(sleeps, nodecount, times)
+            & nodes_in_range(nodes, sleeps, nodes_used(nodecount), times)
     }
 }

@@ -49,9 +49,15 @@ fn rests(node: Node, clock: bool) -> bool
 }
 
 // A node is read after its test, so that those that rest, most of them in most ticks, are not copied.
-fn tick_nodes(mut nodes: [Node; Plan::NODES], count: u8, times: Times, clock: bool) -> Ticked
+fn tick_nodes(
+    mut nodes: [Node; Plan::NODES],
+    sleeps: bool,
+    count: u8,
+    times: Times,
+    clock: bool,
+) -> Ticked
     requires { ⌜ count ≤ maxNodes ⌝ }
-    ensures { λ r. ⌜ r ≡ tickNodes times clock count nodes ⌝ }
+    ensures { λ r. ⌜ r ≡ tickNodes sleeps times clock count nodes ⌝ }
 {
     let mut callers = Callers::Nobody;
     let mut i: u8 = 0;
@@ -61,7 +67,7 @@ fn tick_nodes(mut nodes: [Node; Plan::NODES], count: u8, times: Times, clock: bo
             continue;
         }
         let node = nodes[i as usize];
-        let reply = node.tick(times, clock);
+        let reply = node.tick(sleeps, times, clock);
         let command = reply.command;
         callers = with_caller(callers, i, command);
         let next = reply.node;
@@ -72,9 +78,9 @@ fn tick_nodes(mut nodes: [Node; Plan::NODES], count: u8, times: Times, clock: bo
 }
 
 impl World {
-    pub(crate) fn tick(self, count: u8, times: Times, bus: Bus) -> Moved
+    pub(crate) fn tick(self, sleeps: bool, count: u8, times: Times, bus: Bus) -> Moved
         requires { ⌜ count ≤ maxNodes ⌝ }
-        ensures { λ r. ⌜ r ≡ tickMove times count bus self ⌝ }
+        ensures { λ r. ⌜ r ≡ tickMove sleeps times count bus self ⌝ }
     {
         let master = self.master;
         let before = self.nodes;
@@ -83,7 +89,7 @@ impl World {
         let state = next.state;
         let command = reply.command;
         let clock = is_normal(state);
-        let ticked = tick_nodes(before, count, times, clock);
+        let ticked = tick_nodes(before, sleeps, count, times, clock);
         let nodes = ticked.nodes;
         let callers = ticked.callers;
         let world = World {

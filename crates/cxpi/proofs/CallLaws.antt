@@ -13,6 +13,7 @@ use Rattle.machine.specs.Counts.{countsBelow}
 use Rattle.plan.specs.declared.Times.{Times}
 use Rattle.plan.specs.declared.Plan.{Plan}
 use Rattle.plan.specs.Record.{zeroPlan, unusedZero}
+use Rattle.plan.specs.Profile.{sleeps}
 use Rattle.plan.specs.Rules.{planRefusal}
 use Rattle.plan_bytes.specs.Record.{recordOf, recordBytes}
 use Rattle.plan_bytes.proofs.Records.{zero-bytes}
@@ -36,23 +37,25 @@ use Rattle.node_bytes.specs.Events as NodeEvents
 use Rattle.cxpi.specs.MasterCalls.{masterReply}
 
 -- "bytes that are no state give 11": what they are taken for is out of range under every plan
-no-master : (nodecount : ℕ) (t : Times) → MasterRange.inRange nodecount t noMaster ≡ false
+no-master : (sleeps : Bool) (nodecount : ℕ) (t : Times) → MasterRange.inRange sleeps nodecount t noMaster ≡ false
 unfolding MasterRange.inRange
-no-master nodecount t = refl
+no-master true nodecount t = refl
+no-master false nodecount t = refl
 
-pub no-master-state : (p : Plan) (s : List ℕ) → isMaster s ≡ false → MasterRange.inRange (p .nodecount) (p .times) (masterOf s) ≡ false
-no-master-state p s e = rw e (no-master (p .nodecount) (p .times))
+pub no-master-state : (p : Plan) (s : List ℕ) → isMaster s ≡ false → MasterRange.inRange (sleeps p) (p .nodecount) (p .times) (masterOf s) ≡ false
+no-master-state p s e = rw e (no-master (sleeps p) (p .nodecount) (p .times))
 
-no-node : (t : Times) → NodeRange.inRange t noNode ≡ false
+no-node : (sleeps : Bool) (t : Times) → NodeRange.inRange sleeps t noNode ≡ false
 unfolding NodeRange.inRange
-no-node t = go (leb 0 (t .quiet)) (countsBelow 4 (noNode .counts))
+no-node false t = refl
+no-node true t = go (leb 0 (t .quiet)) (countsBelow 4 (noNode .counts))
   where
     go : (a b : Bool) → (a && true && false && b) ≡ false
     go true b = refl
     go false b = refl
 
-pub no-node-state : (t : Times) (s : List ℕ) → isNode s ≡ false → NodeRange.inRange t (nodeOf s) ≡ false
-no-node-state t s e = rw e (no-node t)
+pub no-node-state : (sleeps : Bool) (t : Times) (s : List ℕ) → isNode s ≡ false → NodeRange.inRange sleeps t (nodeOf s) ≡ false
+no-node-state sleeps t s e = rw e (no-node sleeps t)
 
 -- "bytes that are no event 15"
 pub no-master-event : MasterStep.eventRight MasterEvents.noEvent ≡ false

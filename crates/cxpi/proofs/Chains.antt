@@ -10,7 +10,7 @@ use native.Mathlib.Omega.{arith}
 use borrow.Author.Tests.{ne-eqb, le-ltb, eqb-false}
 use Rattle.folds.specs.FirstBroken.{firstBroken}
 use Rattle.plan.specs.declared.Plan.{Plan}
-use Rattle.plan.specs.Profile.{profileRight}
+use Rattle.plan.specs.Profile.{profileRight, sleeps}
 use Rattle.plan.specs.Rules.{revisionRight, timesRight, nodesRight, rowsRight, allPublish, planRefusal}
 use Rattle.plan_bytes.specs.Record.{recordOf}
 use Rattle.master.specs.declared.Master.{Master}
@@ -122,9 +122,11 @@ module _ (plan : List ℕ) (room : ℕ) where
 
   -- so calls from power-on are the machine's run
   pub master-calls : 3 ≤ room → (events : List (List ℕ))
-      → masterCalls plan room (masterBytes MasterChanges.powerOn) events ≡ masterBytes (masterRun (recordOf plan) MasterChanges.powerOn (map MasterEvents.eventOf events))
-  master-calls l events = master-chain l events MasterChanges.powerOn (record { holds = refl; causes = refl; counts = refl })
+      → masterCalls plan room (masterBytes (MasterChanges.powerOn (sleeps (recordOf plan)))) events
+      ≡ masterBytes (masterRun (recordOf plan) (MasterChanges.powerOn (sleeps (recordOf plan))) (map MasterEvents.eventOf events))
+  master-calls l events = master-chain l events (MasterChanges.powerOn (sleeps (recordOf plan))) (record { holds = refl; causes = refl; counts = refl })
 
   pub node-calls : 4 ≤ room → (me : ℕ) (events : List (List ℕ))
-      → nodeCalls plan me room (nodeBytes NodeChanges.powerOn) events ≡ nodeBytes (nodeRun (recordOf plan) me NodeChanges.powerOn (map NodeEvents.eventOf events))
-  node-calls l me events = node-chain l me events NodeChanges.powerOn refl
+      → nodeCalls plan me room (nodeBytes (NodeChanges.powerOn (sleeps (recordOf plan)))) events
+      ≡ nodeBytes (nodeRun (recordOf plan) me (NodeChanges.powerOn (sleeps (recordOf plan))) (map NodeEvents.eventOf events))
+  node-calls l me events = node-chain l me events (NodeChanges.powerOn (sleeps (recordOf plan))) refl

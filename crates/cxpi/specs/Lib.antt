@@ -2,4 +2,5 @@ pub mod Chains
 pub mod ConfigurationCalls
 pub mod MasterCalls
 pub mod NodeCalls
+pub mod PowerOn
 pub mod Version

@@ -1,11 +1,12 @@
 -- What the calls on the master return and leave.
 use Prim.Native.Nat.{ℕ}
-use mathlib.Core.Bool.{Bool, _||_}
+use mathlib.Core.Bool.{Bool, true, _||_}
 use mathlib.Core.List.{List}
 use lib.ListN.{length}
 use lib.Seq.{sets}
 use lib.Dec.{ltb, eqb}
 use Rattle.folds.specs.Fold.{pick}
+use Rattle.plan.specs.Profile.{sleeps}
 use Rattle.plan.specs.Rules.{planRefusal}
 use Rattle.plan_bytes.specs.Record.{recordOf}
 use Rattle.master.specs.declared.Reply.{Reply}
@@ -15,21 +16,20 @@ use Rattle.master_bytes.specs.Places.{masterLength, replyLength}
 use Rattle.master_bytes.specs.States.{masterBytes, masterOf}
 use Rattle.master_bytes.specs.Events.{eventOf}
 use Rattle.master_bytes.specs.Replies.{replied}
+use Rattle.cxpi.specs.PowerOn.{startRefusal}
 
--- power-on: 10 for a buffer that is too short, which stays
-abbrev pub masterRoom : ℕ → ℕ
-masterRoom room = pick (ltb room masterLength) 10 0
-
-abbrev pub masterOn : List ℕ → List ℕ
-masterOn state = pick (ltb (length state) masterLength) state (sets state 0 (masterBytes powerOn))
+-- power-on: a refused one leaves the buffer, since zero bytes would be a state
+abbrev pub masterOn : List ℕ → List ℕ → List ℕ
+masterOn plan state =
+    pick (eqb (startRefusal masterLength plan (length state)) 0) (sets state 0 (masterBytes (powerOn (sleeps (recordOf plan))))) state
 
 -- the order of a step's numbers: the plan's, 3 to 8; then 10 for a reply buffer of so many bytes that is too short; then the step's own,
 -- to which bytes that are no state give 11 and bytes that are no event 15
 abbrev pub masterReply : List ℕ → List ℕ → List ℕ → ℕ → Reply
 masterReply plan state event room =
     pick (eqb (planRefusal (recordOf plan)) 0)
-    (pick (ltb room replyLength) (refuse powerOn 10) (stepUnder (recordOf plan) (masterOf state) (eventOf event)))
-    (refuse powerOn (planRefusal (recordOf plan)))
+    (pick (ltb room replyLength) (refuse (powerOn true) 10) (stepUnder (recordOf plan) (masterOf state) (eventOf event)))
+    (refuse (powerOn true) (planRefusal (recordOf plan)))
 
 -- "A refused step returns the state as given"; "13 and 14 alone change it"
 abbrev pub changesState : ℕ → Bool

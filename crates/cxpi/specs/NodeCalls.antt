@@ -1,10 +1,12 @@
 -- What the calls on a node return and leave.
 use Prim.Native.Nat.{ℕ}
+use mathlib.Core.Bool.{true}
 use mathlib.Core.List.{List}
 use lib.ListN.{length}
 use lib.Seq.{sets}
 use lib.Dec.{ltb, eqb}
 use Rattle.folds.specs.Fold.{pick}
+use Rattle.plan.specs.Profile.{sleeps}
 use Rattle.plan.specs.Rules.{planRefusal}
 use Rattle.plan_bytes.specs.Record.{recordOf}
 use Rattle.node.specs.declared.Reply.{Reply}
@@ -14,20 +16,19 @@ use Rattle.node_bytes.specs.Places.{nodeLength, replyLength}
 use Rattle.node_bytes.specs.States.{nodeBytes, nodeOf}
 use Rattle.node_bytes.specs.Events.{eventOf}
 use Rattle.node_bytes.specs.Replies.{replied}
+use Rattle.cxpi.specs.PowerOn.{startRefusal}
 
--- power-on: 10 for a buffer that is too short, which stays
-abbrev pub nodeRoom : ℕ → ℕ
-nodeRoom room = pick (ltb room nodeLength) 10 0
-
-abbrev pub nodeOn : List ℕ → List ℕ
-nodeOn state = pick (ltb (length state) nodeLength) state (sets state 0 (nodeBytes powerOn))
+-- power-on: a refused one leaves the buffer
+abbrev pub nodeOn : List ℕ → List ℕ → List ℕ
+nodeOn plan state =
+    pick (eqb (startRefusal nodeLength plan (length state)) 0) (sets state 0 (nodeBytes (powerOn (sleeps (recordOf plan))))) state
 
 -- the numbers of a step, in the master's order
 abbrev pub nodeReply : List ℕ → ℕ → List ℕ → List ℕ → ℕ → Reply
 nodeReply plan me state event room =
     pick (eqb (planRefusal (recordOf plan)) 0)
-    (pick (ltb room replyLength) (refuse powerOn 10) (stepUnder (recordOf plan) me (nodeOf state) (eventOf event)))
-    (refuse powerOn (planRefusal (recordOf plan)))
+    (pick (ltb room replyLength) (refuse (powerOn true) 10) (stepUnder (recordOf plan) me (nodeOf state) (eventOf event)))
+    (refuse (powerOn true) (planRefusal (recordOf plan)))
 
 -- "A refused step returns the state as given"
 abbrev pub nodeLeaves : Reply → List ℕ → List ℕ

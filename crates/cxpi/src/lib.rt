@@ -5,6 +5,7 @@ ghost use Rattle.cxpi.specs.Version.{version};
 mod configuration;
 mod masters;
 mod nodes;
+mod power_on;
 mod sets;
 
 #[no_mangle]

@@ -1,8 +1,12 @@
 // Calls on the master.
 ghost use mathlib.Core.Path.{_≡_};
+ghost use mathlib.Core.Bool.{true};
 ghost use lib.ListN.{length};
 ghost use Rattle.master.specs.Changes.{powerOn, refuse};
-ghost use Rattle.cxpi.specs.MasterCalls.{masterRoom, masterOn, masterReply, changesState, masterLeaves, masterReplies};
+ghost use Rattle.master_bytes.specs.Places.{masterLength};
+ghost use Rattle.cxpi.specs.PowerOn.{startRefusal};
+ghost use Rattle.cxpi.specs.MasterCalls.{masterOn, masterReply, changesState, masterLeaves, masterReplies};
+use crate::power_on::start_refusal;
 use master::Command;
 use master::Master;
 use master::Reply;
@@ -13,20 +17,21 @@ use master_bytes::put_reply;
 use master_bytes::step_on;
 
 #[no_mangle]
-pub extern "C" fn cxpi_master_power_on(state: &mut [u8]) -> u32
-    ensures { λ r. ⌜ (r ≡ masterRoom (length (now (state .entry)))) × (now (state .exit) ≡ masterOn (now (state .entry))) ⌝ }
+pub extern "C" fn cxpi_master_power_on(plan: &[u8], state: &mut [u8]) -> u32
+    ensures { λ r. ⌜ (r ≡ startRefusal masterLength (now (plan .entry)) (length (now (state .entry)))) × (now (state .exit) ≡ masterOn (now (plan .entry)) (now (state .entry))) ⌝ }
 {
-    if state.len() < master_bytes::LENGTH {
-        return 10;
+    let refusal = start_refusal(master_bytes::LENGTH, plan, state.len());
+    if refusal != 0 {
+        return refusal as u32;
     }
-    put_power_on(state);
+    put_power_on(state, plan_bytes::sleeps(plan));
     0
 }
 
 fn refused(refusal: u8) -> Reply
-    ensures { λ r. ⌜ r ≡ refuse powerOn refusal ⌝ }
+    ensures { λ r. ⌜ r ≡ refuse (powerOn true) refusal ⌝ }
 {
-    let master = Master::power_on();
+    let master = Master::power_on(true);
     Reply {
         master,
         command: Command::Nothing,

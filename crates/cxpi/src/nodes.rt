@@ -1,10 +1,14 @@
 // Calls on a node.
 ghost use mathlib.Core.Path.{_≡_};
+ghost use mathlib.Core.Bool.{true};
 ghost use lib.ListN.{length};
 ghost use Rattle.plan_bytes.specs.Record.{recordOf};
 ghost use Rattle.node.specs.Step.{rowAsked};
 ghost use Rattle.node.specs.Changes.{powerOn, refuse};
-ghost use Rattle.cxpi.specs.NodeCalls.{nodeRoom, nodeOn, nodeReply, nodeLeaves, nodeReplies};
+ghost use Rattle.node_bytes.specs.Places.{nodeLength};
+ghost use Rattle.cxpi.specs.PowerOn.{startRefusal};
+ghost use Rattle.cxpi.specs.NodeCalls.{nodeOn, nodeReply, nodeLeaves, nodeReplies};
+use crate::power_on::start_refusal;
 use node::Command;
 use node::Event;
 use node::Node;
@@ -17,20 +21,21 @@ use node_bytes::put_reply;
 use plan::Lookup;
 
 #[no_mangle]
-pub extern "C" fn cxpi_node_power_on(state: &mut [u8]) -> u32
-    ensures { λ r. ⌜ (r ≡ nodeRoom (length (now (state .entry)))) × (now (state .exit) ≡ nodeOn (now (state .entry))) ⌝ }
+pub extern "C" fn cxpi_node_power_on(plan: &[u8], state: &mut [u8]) -> u32
+    ensures { λ r. ⌜ (r ≡ startRefusal nodeLength (now (plan .entry)) (length (now (state .entry)))) × (now (state .exit) ≡ nodeOn (now (plan .entry)) (now (state .entry))) ⌝ }
 {
-    if state.len() < node_bytes::LENGTH {
-        return 10;
+    let refusal = start_refusal(node_bytes::LENGTH, plan, state.len());
+    if refusal != 0 {
+        return refusal as u32;
     }
-    put_power_on(state);
+    put_power_on(state, plan_bytes::sleeps(plan));
     0
 }
 
 fn refused(refusal: u8) -> Reply
-    ensures { λ r. ⌜ r ≡ refuse powerOn refusal ⌝ }
+    ensures { λ r. ⌜ r ≡ refuse (powerOn true) refusal ⌝ }
 {
-    let node = Node::power_on();
+    let node = Node::power_on(true);
     Reply {
         node,
         command: Command::Nothing,
@@ -69,6 +74,7 @@ fn reply_to(plan: &[u8], me: u8, state: &[u8], event: &[u8], room: usize) -> Rep
     let times = plan_bytes::times_of(plan);
     let polled = plan_bytes::is_polled(plan, me);
     node_of(state).step_with(
+        plan_bytes::sleeps(plan),
         plan_bytes::node_count(plan),
         times,
         me,

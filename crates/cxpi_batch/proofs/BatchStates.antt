@@ -18,6 +18,7 @@ use Rattle.plan.specs.declared.Plan.{Plan}
 use Rattle.plan.specs.declared.Row.{Row}
 use Rattle.plan.specs.declared.Lookup.{Lookup}
 use Rattle.plan.specs.Find.{risingRow}
+use Rattle.plan.specs.Profile.{sleeps}
 use Rattle.plan.specs.Rules.{planRefusal}
 use Rattle.master.specs.declared.Master.{Master}
 use Rattle.master.specs.declared.Event.{Event}
@@ -45,20 +46,20 @@ module _ (p : Plan) (m : Master) where
   unfolding standing
   by-plan n = rw (ne-eqb (planRefusal p) 0 n)
 
-  pub by-state : planRefusal p ≡ 0 → inRange (p .nodecount) (p .times) m ≡ false → 11 ≡ standing p m
+  pub by-state : planRefusal p ≡ 0 → inRange (sleeps p) (p .nodecount) (p .times) m ≡ false → 11 ≡ standing p m
   unfolding standing
   by-state z o = rw (z, o)
 
-  pub by-none : planRefusal p ≡ 0 → inRange (p .nodecount) (p .times) m ≡ true → 0 ≡ standing p m
+  pub by-none : planRefusal p ≡ 0 → inRange (sleeps p) (p .nodecount) (p .times) m ≡ true → 0 ≡ standing p m
   unfolding standing
   by-none z o = rw (z, o)
 
   -- 0 only where both are right
-  pub none-only : standing p m ≡ 0 → (planRefusal p ≡ 0) × (inRange (p .nodecount) (p .times) m ≡ true)
+  pub none-only : standing p m ≡ 0 → (planRefusal p ≡ 0) × (inRange (sleeps p) (p .nodecount) (p .times) m ≡ true)
   unfolding standing
-  none-only e = go (eqb (planRefusal p) 0) (inRange (p .nodecount) (p .times) m) refl refl
+  none-only e = go (eqb (planRefusal p) 0) (inRange (sleeps p) (p .nodecount) (p .times) m) refl refl
     where
-      go : (a b : Bool) → eqb (planRefusal p) 0 ≡ a → inRange (p .nodecount) (p .times) m ≡ b → (planRefusal p ≡ 0) × (inRange (p .nodecount) (p .times) m ≡ true)
+      go : (a b : Bool) → eqb (planRefusal p) 0 ≡ a → inRange (sleeps p) (p .nodecount) (p .times) m ≡ b → (planRefusal p ≡ 0) × (inRange (sleeps p) (p .nodecount) (p .times) m ≡ true)
       go true true h g = (eqb-true _ _ h, g)
       go true false h g = let w : _≡_ {A = ℕ} 11 0 = rw (h, g) at e in absurd (omega (arith, w))
       go false b h g = let w : planRefusal p ≡ 0 = rw h at e in let v : _≡_ {A = Bool} true false = rw w at h in no-way (sym v)
@@ -71,23 +72,27 @@ state-sized s =
     (λ e. record { holds = refl; counts = refl; causes = refl })
 
 -- one in range is a state's
-state-is : (n : ℕ) (t : Times) (s : List ℕ) → inRange n t (masterOf s) ≡ true → isMaster s ≡ true
+state-is : (sleeps : Bool) (n : ℕ) (t : Times) (s : List ℕ) → inRange sleeps n t (masterOf s) ≡ true → isMaster s ≡ true
 unfolding inRange
-state-is n t s e = go (isMaster s) refl
+state-is sleeps n t s e = go (isMaster s) refl
   where
     go : (b : Bool) → isMaster s ≡ b → isMaster s ≡ true
     go true h = h
-    go false h = no-way (rw h at e)
+    go false h = no-way (sym (out sleeps) ∙ (rw h at e))
 
-state-long : (n : ℕ) (t : Times) (s : List ℕ) → inRange n t (masterOf s) ≡ true → length s ≡ 201
+    out : (sleeps : Bool) → inRange sleeps n t noMaster ≡ false
+    out true = refl
+    out false = refl
+
+state-long : (sleeps : Bool) (n : ℕ) (t : Times) (s : List ℕ) → inRange sleeps n t (masterOf s) ≡ true → length s ≡ 201
 unfolding isMaster
-state-long n t s e =
-    let is : isMaster s ≡ true = state-is n t s e in
+state-long sleeps n t s e =
+    let is : isMaster s ≡ true = state-is sleeps n t s e in
     eqb-true (length s) 201 (search halves depth 6)
 
-permissions-right : (n : ℕ) (t : Times) (m : Master) → inRange n t m ≡ true → holdsRight n (t .window) (m .holds) ≡ true
+permissions-right : (sleeps : Bool) (n : ℕ) (t : Times) (m : Master) → inRange sleeps n t m ≡ true → holdsRight n (t .window) (m .holds) ≡ true
 unfolding inRange
-permissions-right n t m e = search halves depth 6
+permissions-right sleeps n t m e = search halves depth 6
 
 pub written : (s : List ℕ) (m : Master) → length s ≡ 201 → Sized m → sets s 0 (masterBytes m) ≡ masterBytes m
 written s m h sized = sets-whole (masterBytes m) s (packed-long m (sized .holds) (sized .counts) (sized .causes) ∙ sym h)
@@ -100,11 +105,11 @@ module _ (p : Plan) (s : List ℕ) where
   pub plan-stands : (r : ℕ) → r ≡ planRefusal p → (r ≡ 0 → ⊥) → (r ≡ standing p (masterOf s)) × (s ≡ leftUnder r s (masterOf s))
   plan-stands r e n = (e ∙ by-plan p (masterOf s) (λ z. n (e ∙ z)), rw (ne-eqb r 0 n))
 
-  pub state-stands : planRefusal p ≡ 0 → inRange (p .nodecount) (p .times) (masterOf s) ≡ false → (11 ≡ standing p (masterOf s)) × (s ≡ leftUnder 11 s (masterOf s))
+  pub state-stands : planRefusal p ≡ 0 → inRange (sleeps p) (p .nodecount) (p .times) (masterOf s) ≡ false → (11 ≡ standing p (masterOf s)) × (s ≡ leftUnder 11 s (masterOf s))
   state-stands z o = (by-state p (masterOf s) z o, refl)
 
-  pub none-stands : planRefusal p ≡ 0 → inRange (p .nodecount) (p .times) (masterOf s) ≡ true → ((o : ℕ) → byte s o < 256) → (0 ≡ standing p (masterOf s)) × (s ≡ leftUnder 0 s (masterOf s))
-  none-stands z o bytes = (by-none p (masterOf s) z o, sym (bytes-back s (state-is (p .nodecount) (p .times) s o) bytes))
+  pub none-stands : planRefusal p ≡ 0 → inRange (sleeps p) (p .nodecount) (p .times) (masterOf s) ≡ true → ((o : ℕ) → byte s o < 256) → (0 ≡ standing p (masterOf s)) × (s ≡ leftUnder 0 s (masterOf s))
+  none-stands z o bytes = (by-none p (masterOf s) z o, sym (bytes-back s (state-is (sleeps p) (p .nodecount) (p .times) s o) bytes))
 
   pub machine-done : (e : EventRecord) (r : Reply) (number : ℕ) (after : List ℕ) → standing p (masterOf s) ≡ 0 → r ≡ stepUnder p (masterOf s) (eventOf e) → number ≡ commandNumber (r .command)
       → Sized (r .master) → after ≡ sets s 0 (masterBytes (r .master))
@@ -113,16 +118,16 @@ module _ (p : Plan) (s : List ℕ) where
   unfolding stepped
   machine-done e r number after n is c sized w =
       let right = none-only p (masterOf s) n in
-      let bytes = w ∙ written s (r .master) (state-long (p .nodecount) (p .times) s (right .1)) sized in
+      let bytes = w ∙ written s (r .master) (state-long (sleeps p) (p .nodecount) (p .times) s (right .1)) sized in
       rw (right .0, ← is) (rw c refl, bytes, ap masterOf bytes ∙ back (r .master) sized)
 
   -- under another number every event is refused by it
   refuses : (standing p (masterOf s) ≡ 0 → ⊥) → (e : Event) → masterStep p (masterOf s) e ≡ refuse (masterOf s) (standing p (masterOf s))
   unfolding standing
-  refuses n e = go (eqb (planRefusal p) 0) (inRange (p .nodecount) (p .times) (masterOf s)) refl refl
+  refuses n e = go (eqb (planRefusal p) 0) (inRange (sleeps p) (p .nodecount) (p .times) (masterOf s)) refl refl
     where
-      go : (a b : Bool) → eqb (planRefusal p) 0 ≡ a → inRange (p .nodecount) (p .times) (masterOf s) ≡ b
-          → masterStep p (masterOf s) e ≡ refuse (masterOf s) (pick (eqb (planRefusal p) 0) (pick (inRange (p .nodecount) (p .times) (masterOf s)) 0 11) (planRefusal p))
+      go : (a b : Bool) → eqb (planRefusal p) 0 ≡ a → inRange (sleeps p) (p .nodecount) (p .times) (masterOf s) ≡ b
+          → masterStep p (masterOf s) e ≡ refuse (masterOf s) (pick (eqb (planRefusal p) 0) (pick (inRange (sleeps p) (p .nodecount) (p .times) (masterOf s)) 0 11) (planRefusal p))
       go true true h g = absurd (n (rw (h, g)))
       go true false h g = rw (h, g)
       go false b h g = rw h
@@ -145,7 +150,7 @@ module _ (p : Plan) (s : List ℕ) where
         let m = masterOf s in
         let right = none-only p m n in
         let step = quiet-tick p m e (right .0) (right .1) (ap (λ (l : List ℕ). isQuiet l e) (sym packed) ∙ q) in
-        let held = permissions-right (p .nodecount) (p .times) m (right .1) in
+        let held = permissions-right (sleeps p) (p .nodecount) (p .times) m (right .1) in
         let bytes = w ∙ ap (agedBytes (p .nodecount) (p .times .window)) packed ∙ aged-master m (p .nodecount) (p .times .window) (state-sized s) held in
         (rw step, rw step bytes, rw step (ap masterOf bytes ∙ back (aged (p .times .window) m) (aged-sized m (p .times .window) (state-sized s))))
 
@@ -174,9 +179,9 @@ module _ (p : Plan) (s : List ℕ) where
 -- no event changes the number
 pub standing-kept : (p : Plan) (m : Master) (e : EventRecord) → standing p (stepped p m e .master) ≡ standing p m
 unfolding stepped
-standing-kept p m e = go (eqb (planRefusal p) 0) (inRange (p .nodecount) (p .times) m) refl refl
+standing-kept p m e = go (eqb (planRefusal p) 0) (inRange (sleeps p) (p .nodecount) (p .times) m) refl refl
   where
-    go : (a b : Bool) → eqb (planRefusal p) 0 ≡ a → inRange (p .nodecount) (p .times) m ≡ b → standing p (masterStep p m (eventOf e) .master) ≡ standing p m
+    go : (a b : Bool) → eqb (planRefusal p) 0 ≡ a → inRange (sleeps p) (p .nodecount) (p .times) m ≡ b → standing p (masterStep p m (eventOf e) .master) ≡ standing p m
     go true true h g =
         let z : planRefusal p ≡ 0 = eqb-true _ _ h in
         sym (by-none p (masterStep p m (eventOf e) .master) z (range-kept p z m (eventOf e) g)) ∙ by-none p m z g

@@ -4,6 +4,7 @@ use mathlib.Core.List.{List}
 use lib.Dec.{eqb}
 use Rattle.folds.specs.Fold.{pick}
 use Rattle.plan.specs.declared.Plan.{Plan}
+use Rattle.plan.specs.Profile.{sleeps}
 use Rattle.plan.specs.Rules.{planRefusal}
 use Rattle.plan_bytes.specs.Record.{recordOf}
 use Rattle.master.specs.declared.Master.{Master}
@@ -15,7 +16,7 @@ use Rattle.master_bytes.specs.States.{masterBytes, masterOf}
 
 -- the number that plan or state give every event: "plan 4 to 8 first, then 11", and 3 "before 4"
 unfoldable pub standing : Plan → Master → ℕ
-standing p m = pick (eqb (planRefusal p) 0) (pick (inRange (p .nodecount) (p .times) m) 0 11) (planRefusal p)
+standing p m = pick (eqb (planRefusal p) 0) (pick (inRange (sleeps p) (p .nodecount) (p .times) m) 0 11) (planRefusal p)
 
 -- under such a number: the bytes of a master where it is 0, else as they were
 abbrev pub leftUnder : ℕ → List ℕ → Master → List ℕ

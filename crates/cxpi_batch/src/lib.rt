@@ -32,7 +32,8 @@ fn number_of(plan: &[u8], state: &[u8]) -> u8
         return refusal;
     }
     let times = plan_bytes::times_of(plan);
-    if master_of(state).in_range(plan_bytes::node_count(plan), times) {
+    let sleeps = plan_bytes::sleeps(plan);
+    if master_of(state).in_range(sleeps, plan_bytes::node_count(plan), times) {
         0
     } else {
         11

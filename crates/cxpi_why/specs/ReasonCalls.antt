@@ -5,6 +5,7 @@ use lib.Dec.{ltb, eqb}
 use lib.ListN.{length}
 use lib.Seq.{sets}
 use Rattle.folds.specs.Fold.{pick}
+use Rattle.plan.specs.Profile.{sleeps}
 use Rattle.plan.specs.Rules.{planRefusal}
 use Rattle.plan_bytes.specs.Record.{recordOf}
 use Rattle.master_bytes.specs.States.{masterOf}
@@ -21,7 +22,7 @@ reasonLength = 3
 abbrev pub reasonReply : List ℕ → List ℕ → ℕ → Explained
 reasonReply plan state room =
     pick (eqb (planRefusal (recordOf plan)) 0)
-    (pick (ltb room reasonLength) (refused 10) (explainWith (recordOf plan .nodecount) (recordOf plan .times) (masterOf state)))
+    (pick (ltb room reasonLength) (refused 10) (explainWith (sleeps (recordOf plan)) (recordOf plan .nodecount) (recordOf plan .times) (masterOf state)))
     (refused (planRefusal (recordOf plan)))
 
 -- "three bytes, reason, node and cause, zeros after a refusal"; a buffer that is too short is not written

@@ -28,7 +28,12 @@ fn explained(plan: &[u8], state: &[u8], room: usize) -> Explained
         return refused(10);
     }
     let times = plan_bytes::times_of(plan);
-    explain_with(plan_bytes::node_count(plan), times, master_of(state))
+    explain_with(
+        plan_bytes::sleeps(plan),
+        plan_bytes::node_count(plan),
+        times,
+        master_of(state),
+    )
 }
 
 fn put_reason(reply: &mut [u8], reason: Reason)

@@ -18,6 +18,7 @@ use Rattle.plan.specs.declared.Plan.{Plan}
 use Rattle.plan.specs.declared.Row.{Row}
 use Rattle.plan.specs.Answers.{isPolled, accepts}
 use Rattle.plan.specs.Find.{findRow}
+use Rattle.plan.specs.Profile.{sleeps}
 use Rattle.plan.specs.Rules.{planRefusal}
 use Rattle.plan.proofs.Accepted.{accepted, times-fit}
 use Rattle.plan.proofs.Lookups.{found-row}
@@ -26,6 +27,7 @@ use Rattle.node.specs.declared.Node.{Node}
 use Rattle.node.specs.declared.Reply as NodeReply
 use Rattle.node.specs.Waking as NodeWaking
 use Rattle.node.specs.Sending.{requestStep, sendAskStep}
+use Rattle.node.proofs.Awake.{node-normal}
 use Rattle.node.proofs.Commands.{Tells, ownRow, request-tells, send-ask-tells, own-count}
 use Rattle.node.proofs.Settling.{run-on-long, run-off-long}
 use Rattle.master.specs.declared.Answer.{Answer}
@@ -57,9 +59,10 @@ use Rattle.bus.specs.declared.Moved.{Moved}
 use Rattle.bus.specs.declared.Passed.{Passed}
 use Rattle.bus.specs.Passed.{ticked, asked, answered}
 use Rattle.bus.specs.World.{nodesUsed, nodeAt, stays}
-use Rattle.demand.specs.Demand3.{settlingTime, Settles, Wakes, Demand3}
+use Rattle.demand.specs.Demand3.{settlingTime, Settles, Wakes, SleepsAndWakes, StaysAwake, DemandBy, Demand3}
 use Rattle.history.specs.Run.{Run, then, runFrom, run, start}
 use Rattle.history.specs.Words.{nodePermitted}
+use Rattle.demand.proofs.Awake.{run-awake}
 use Rattle.demand.proofs.Masters as Masters
 use Rattle.demand.proofs.Masters.{MasterTold}
 use Rattle.demand.proofs.Nodes as Nodes
@@ -211,16 +214,16 @@ module _ (p : Plan) (ok : planRefusal p ≡ 0) (past : List Passed) where
     move-told : (bus : Bus) (act : Act) → Kept (actBy p w bus act)
     move-told bus Act.Tick =
         let reply = MasterTicks.tickStep (p .times) (w .master) in
-        let callers = tickCallers (p .times) (clockOn (reply .master)) (nodesUsed (p .nodecount)) (w .nodes) in
+        let callers = tickCallers (sleeps p) (p .times) (clockOn (reply .master)) (nodesUsed (p .nodecount)) (w .nodes) in
         record {
           nodes = Nodes.tick-told p ok (clockOn (reply .master)) (isOff (reply .command)) (anyCalled callers && bus .master) bus (reply .master) (w .nodes) past (v .nodes);
           master =
               subst (λ (m : Master). MasterTold p m (ticked (clockOn (reply .master)) (isOff (reply .command)) (anyCalled callers && bus .master) ∷ past))
-              (sym (spread-master (nodesUsed (p .nodecount)) callers bus (record { master = reply .master; nodes = tickedNodes (p .times) (clockOn (reply .master)) (nodesUsed (p .nodecount)) (w .nodes) })))
+              (sym (spread-master (nodesUsed (p .nodecount)) callers bus (record { master = reply .master; nodes = tickedNodes (sleeps p) (p .times) (clockOn (reply .master)) (nodesUsed (p .nodecount)) (w .nodes) })))
               (Masters.tick-told p ok past (anyCalled callers && bus .master) (w .master) (v .master));
         }
     move-told bus (Act.NodeWakeAsk node) =
-        let reply = NodeWaking.wakeAskStep (nodeAt (w .nodes) node) in
+        let reply = NodeWaking.wakeAskStep (sleeps p) (nodeAt (w .nodes) node) in
         let callers = withCaller Callers.Nobody node (reply .command) in
         of-node node w (wakeAskBy (nodesUsed (p .nodecount)) node bus w reply) v
         (λ l. record {
@@ -233,7 +236,7 @@ module _ (p : Plan) (ok : planRefusal p ≡ 0) (past : List Passed) where
     move-told bus Act.MasterWakeAsk =
         record { nodes = Nodes.asked-told p ok true (w .nodes) past (v .nodes); master = Masters.asked-told p ok past true (w .master) (v .master) }
     move-told bus (Act.NodePermission node permitted) =
-        of-node node w (permissionBy node permitted w (NodeWaking.permissionStep permitted (nodeAt (w .nodes) node))) v
+        of-node node w (permissionBy node permitted w (NodeWaking.permissionStep (sleeps p) permitted (nodeAt (w .nodes) node))) v
         (λ l. record {
           nodes = Nodes.permission-told p ok node permitted (w .nodes) past (v .nodes) l;
           master = Masters.node-permits-told p ok past node permitted (w .master) (v .master);
@@ -246,7 +249,7 @@ module _ (p : Plan) (ok : planRefusal p ≡ 0) (past : List Passed) where
         (judgedMessage (messageRefusal reqid (bus .fate) (w .master .state)) w (sendAskBy node (isPolled p node) (bus .fate) w (findRow p reqid))) v
         (λ l. judged-told reqid (bus .fate) (sendAskBy node (isPolled p node) (bus .fate) w (findRow p reqid)) (send-ask-told node reqid bus l))
     move-told bus Act.SleepAsk =
-        record { nodes = sending-unseen (sleepAskStep (p .nodecount) (w .master) .command); master = Masters.ask-told p ok past (w .master) (v .master) }
+        record { nodes = sending-unseen (sleepAskStep (sleeps p) (p .nodecount) (w .master) .command); master = Masters.ask-told p ok past (w .master) (v .master) }
     move-told bus (Act.SendResult sent) =
         by-test Kept (not (eqb (sendResultStep sent (w .master) .refusal) 0)) (λ e. stays-told w (sendResultStep sent (w .master) .refusal) v)
         (λ e. record {
@@ -260,10 +263,10 @@ module _ (p : Plan) (ok : planRefusal p ≡ 0) where
   from-told (m ∷ moves) r v = from-told moves (then r (worldAct p (r .world) m)) (move-told p ok (r .past) (r .world) v (m .bus) (m .act))
 
   pub run-told : (moves : List Move) → AsTold p (run p moves .world) (run p moves .past)
-  run-told moves = from-told moves start (record { nodes = Nodes.power-on-told p ok; master = Masters.power-on-told p ok })
+  run-told moves = from-told moves (start p) (record { nodes = Nodes.power-on-told p ok; master = Masters.power-on-told p ok })
 
-  pub demand3 : (moves : List Move) → Demand3 p moves
-  demand3 moves =
+  sleeps-and-wakes : (moves : List Move) → SleepsAndWakes p moves
+  sleeps-and-wakes moves =
       let v = run-told moves in
       record {
         stops = Masters.stops-agreed p (run p moves .world .master) (run p moves .past) (v .master);
@@ -288,3 +291,15 @@ module _ (p : Plan) (ok : planRefusal p ≡ 0) where
           let long = on-counted i _ past on quiet in
           let g = run-on-long (p .times) _ _ _ (nodeAt nodes i) (v .each i l) (omega (arith, long)) in
           (g .0, g .1)
+
+  stays-awake : sleeps p ≡ false → (moves : List Move) → StaysAwake p moves
+  stays-awake never moves =
+      let v = run-awake p ok never moves in
+      record { runs = v .runs; awake = λ i l. let q = v .awake .nodes .each i l in (node-normal (nodeAt (run p moves .world .nodes) i) (q .0), q .1) }
+
+  pub demand3 : (moves : List Move) → Demand3 p moves
+  demand3 moves = go (sleeps p) refl
+    where
+      go : (s : Bool) → sleeps p ≡ s → DemandBy s p moves
+      go true e = sleeps-and-wakes moves
+      go false e = stays-awake e moves

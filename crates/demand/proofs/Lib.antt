@@ -1,4 +1,6 @@
+pub mod Awake
 mod Causes
+mod EachNode
 mod ExamplePlans
 pub mod Holds
 pub mod Judged

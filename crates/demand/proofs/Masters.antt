@@ -10,6 +10,7 @@ use Rattle.folds.proofs.Choices.{no-way}
 use Rattle.machine.specs.State.{isNormal}
 use Rattle.plan.specs.declared.Plan.{Plan}
 use Rattle.plan.specs.declared.Row.{Row}
+use Rattle.plan.specs.Profile.{sleeps}
 use Rattle.plan.specs.Rules.{planRefusal}
 use Rattle.master.specs.declared.Answer.{Answer}
 use Rattle.master.specs.declared.Event.{Event}
@@ -108,7 +109,8 @@ pub record MasterTold (p : Plan) (m : Master) (past : List Passed) : Type 0 wher
   run : InRun (p .nodecount) (p .times .window) (masterPermitted past) (λ i k. Recent p i k past) (Agreed p past) m
   pub fits : Fits (p .nodecount) (p .times) m
   stops : Stops p past
-  pub shown : Shown p m past
+  -- where machines sleep
+  pub shown : sleeps p ≡ true → Shown p m past
 
 pub own-word : (p : Plan) (m : Master) (past : List Passed) → MasterTold p m past → m .permission ≡ masterPermitted past
 own-word p m past v = v .run .permission
@@ -159,7 +161,7 @@ module _ (p : Plan) (ok : planRefusal p ≡ 0) (past : List Passed) where
             (keep e (z .unanswered) (z .unwoken) (z .untimed)) (agreed-later p past e (z .unsent) (z .unwoken) (z .unrefused) (z .undamaged)) (v .run));
         fits = v .fits;
         stops = (λ h. no-way (sym (z .unstopped) ∙ h), v .stops);
-        shown = History.still p (few p ok) past e m m (z .quiet) refl refl refl refl (v .shown);
+        shown = λ s. History.still p (few p ok) past e m m (z .quiet) refl refl refl refl (v .shown s);
       }
 
   pub nothing-told : (m : Master) → MasterTold p m past → MasterTold p m (nothing ∷ past)
@@ -177,7 +179,7 @@ module _ (p : Plan) (ok : planRefusal p ≡ 0) (past : List Passed) where
         run = run-wake-up (p .nodecount) (few p ok) (p .times) Now (Next (asked true)) (Agreed p past) (Agreed p (asked true ∷ past)) (masterPermitted past) m (v .run);
         fits = act-fits p ok m Event.WakeAsk refl (v .fits);
         stops = (λ h. no-way h, v .stops);
-        shown = History.wake-up p (few p ok) past m (v .fits) (v .shown);
+        shown = λ s. History.wake-up p (few p ok) past m (v .fits) (v .shown s);
       }
 
   pub permission-told : (word : Bool) (m : Master) → MasterTold p m past → MasterTold p (permissionStep word m .master) (masterPermits word ∷ past)
@@ -189,7 +191,7 @@ module _ (p : Plan) (ok : planRefusal p ≡ 0) (past : List Passed) where
             (keep (masterPermits word) (λ i. refl) refl (λ k. refl)) (agreed-later p past (masterPermits word) refl refl refl refl) (v .run);
         fits = act-fits p ok m (Event.Permission word) refl (v .fits);
         stops = (λ h. no-way h, v .stops);
-        shown = History.permission p (few p ok) past word m (v .shown);
+        shown = λ s. History.permission p (few p ok) past word m (v .shown s);
       }
 
   pub result-told : (sent : Bool) (reached : List Bool) (m : Master) → sendResultStep sent m .refusal ≡ 0 → MasterTold p m past → MasterTold p (sendResultStep sent m .master) (slept sent reached ∷ past)
@@ -201,7 +203,7 @@ module _ (p : Plan) (ok : planRefusal p ≡ 0) (past : List Passed) where
             (keep (slept sent reached) (λ i. refl) refl (λ k. refl)) (agreed-later p past (slept sent reached) refl refl refl refl) (v .run);
         fits = act-fits p ok m (Event.SendResult sent) refl (v .fits);
         stops = (λ h. no-way h, v .stops);
-        shown = History.result p (few p ok) past sent reached m z (v .shown);
+        shown = λ s. History.result p (few p ok) past sent reached m z (v .shown s);
       }
 
   -- a tick, before its pulses
@@ -215,7 +217,7 @@ module _ (p : Plan) (ok : planRefusal p ≡ 0) (past : List Passed) where
             (λ i k l r. recent-later p i k past e refl refl r) (agreed-later p past e refl refl refl refl) (v .run);
         fits = act-fits p ok m Event.Tick refl (v .fits);
         stops = (run-stops (p .nodecount) (few p ok) (p .times) Now Now (Agreed p past) (Agreed p past) (masterPermitted past) m (v .run), v .stops);
-        shown = History.tick p (few p ok) past m (v .fits) (λ off. v .run .outside off .0) (v .shown);
+        shown = λ s. History.tick p (few p ok) past m (v .fits) (λ off. v .run .outside off .0) (v .shown s);
       }
 
   -- and with them
@@ -229,7 +231,7 @@ module _ (p : Plan) (ok : planRefusal p ≡ 0) (past : List Passed) where
             (Agreed p (ticked clock stop true ∷ past)) (masterPermitted past) m (v .run);
         fits = act-fits p ok m Event.Pulse refl (v .fits);
         stops = v .stops;
-        shown = History.pulse p (few p ok) past clock stop m (v .fits) (v .shown);
+        shown = λ s. History.pulse p (few p ok) past clock stop m (v .fits) (v .shown s);
       }
 
   pub tick-told : (pulse : Bool) (m : Master) → MasterTold p m past
@@ -239,7 +241,7 @@ module _ (p : Plan) (ok : planRefusal p ≡ 0) (past : List Passed) where
       woken (clockOn (tickStep (p .times) m .master)) (isOff (tickStep (p .times) m .command)) pulse (tickStep (p .times) m .master) (ticks m v)
 
   -- a sleep ask: refused, or a sending to which all agree
-  pub ask-told : (m : Master) → MasterTold p m past → MasterTold p (sleepAskStep (p .nodecount) m .master) (sendingBy (sleepAskStep (p .nodecount) m .command) ∷ past)
+  pub ask-told : (m : Master) → MasterTold p m past → MasterTold p (sleepAskStep (sleeps p) (p .nodecount) m .master) (sendingBy (sleepAskStep (sleeps p) (p .nodecount) m .command) ∷ past)
   unfolding Stops
   ask-told m v =
       run-ask (p .nodecount) (few p ok) (p .times) Now Now (Agreed p past) (Agreed p past) (masterPermitted past)
@@ -252,9 +254,9 @@ module _ (p : Plan) (ok : planRefusal p ≡ 0) (past : List Passed) where
             (keep sending (λ i. refl) refl (λ k. refl)) (λ a. sent own each) (v .run));
         fits = f;
         stops = (λ h. no-way h, v .stops);
-        shown = History.sends p (few p ok) past m (v .shown);
+        shown = λ s. History.sends p (few p ok) past m (v .shown s);
       })
-      (v .run) (act-fits p ok m Event.SleepAsk refl (v .fits))
+      (sleeps p) (v .run) (act-fits p ok m Event.SleepAsk refl (v .fits))
     where
       sent : masterPermitted past ≡ true → ((i : ℕ) → i < p .nodecount → (k : ℕ) × (k ≤ p .times .window) × Recent p i k past) → Agreed p (sending ∷ past)
       sent own each =
@@ -299,15 +301,15 @@ module _ (p : Plan) (ok : planRefusal p ≡ 0) (past : List Passed) where
             (v .run);
         fits = f;
         stops = (λ h. no-way h, v .stops);
-        shown = History.answer p (few p ok) past row a m on l (v .shown);
+        shown = λ s. History.answer p (few p ok) past row a m on l (v .shown s);
       }
 
-pub power-on-told : (p : Plan) → planRefusal p ≡ 0 → MasterTold p MasterChanges.powerOn []
+pub power-on-told : (p : Plan) → planRefusal p ≡ 0 → MasterTold p (MasterChanges.powerOn (sleeps p)) []
 unfolding Stops
 power-on-told p ok =
     record {
-      run = run-power-on (p .nodecount) (p .times .window) (few p ok) (λ i k. Recent p i k []) (Agreed p []);
-      fits = fits (p .nodecount) (p .times) MasterChanges.powerOn (power-on-fits (p .nodecount) (p .times));
+      run = run-power-on (p .nodecount) (p .times .window) (few p ok) (λ i k. Recent p i k []) (Agreed p []) (sleeps p);
+      fits = fits (sleeps p) (p .nodecount) (p .times) (MasterChanges.powerOn (sleeps p)) (power-on-fits (sleeps p) (p .nodecount) (p .times));
       stops = tt;
-      shown = History.power-on p;
+      shown = λ s. subst (λ (b : Bool). Shown p (MasterChanges.powerOn b) []) (sym s) (History.power-on p);
     }

@@ -1,17 +1,16 @@
 -- The nodes of a run: each is as the past tells, after every move.
 use Prim.Native.Nat.{ℕ, suc, _≤_, _<_}
-use mathlib.Core.Path.{_≡_, refl, sym, subst, _∙_}
+use mathlib.Core.Path.{_≡_, refl, sym, subst}
 use mathlib.Core.Bool.{Bool, true, false}
 use mathlib.Core.List.{List, [], _∷_}
-use lib.ListN.{getD, set, length, length-set, getD-replicate}
-use lib.Seq.{getD-set-same, getD-set-other}
+use lib.ListN.{getD, set, getD-replicate}
 use native.Mathlib.Omega.{arith}
-use native.Mathlib.Decide.{ℕ-discrete}
 use borrow.Author.Tests.{eq-eqb, ne-eqb}
 use Rattle.folds.specs.Fold.{pick}
 use Rattle.folds.proofs.Choices.{by-test}
 use Rattle.plan.specs.declared.Lookup.{Lookup}
 use Rattle.plan.specs.declared.Plan.{Plan}
+use Rattle.plan.specs.Profile.{sleeps}
 use Rattle.plan.specs.Rules.{planRefusal}
 use Rattle.plan.proofs.Accepted.{accepted, nodes-few, TimesFit, times-fit}
 use Rattle.node.specs.declared.Node.{Node}
@@ -25,25 +24,23 @@ use Rattle.master.specs.declared.Master.{Master}
 use Rattle.bus.specs.declared.Bus.{Bus}
 use Rattle.bus.specs.declared.Callers.{Callers}
 use Rattle.bus.specs.declared.Message.{Message}
-use Rattle.bus.specs.declared.World.{World}
-use Rattle.bus.specs.Each.{eachTo}
-use Rattle.bus.specs.Pulses.{anyCalled, otherCalled, receiveIf, reachAll, spread}
+use Rattle.bus.specs.Pulses.{anyCalled, receiveIf, reachAll, spread}
 use Rattle.bus.specs.Ticks.{tickedNodes, tickCallers}
 use Rattle.bus.specs.declared.Passed.{Passed}
 use Rattle.bus.specs.Passed.{ticked, asked, nodePermits, resultOf, slept}
 use Rattle.bus.specs.World.{powerOn, nodesUsed, noNode, nodeAt}
-use Rattle.bus.proofs.EachOne.{each-length, each-get}
 use Rattle.bus.proofs.WhoCalls.{callers-some}
 use Rattle.history.specs.Words.{nodePermitted, isResult}
+use Rattle.demand.proofs.EachNode as EachNode
+use Rattle.demand.proofs.EachNode.{Each, over, one}
 use Rattle.demand.proofs.Ticks.{onFor, offFor}
 
 -- node i as the past tells
 abbrev pub Told : Plan → ℕ → List Passed → Node → Type 0
 Told p i past n = InRun (p .times) (nodePermitted i past) (onFor i past) (offFor past) n
 
-pub record AllTold (p : Plan) (nodes : List Node) (past : List Passed) : Type 0 where
-  pub size : length nodes ≡ 16
-  pub each : (i : ℕ) → i < p .nodecount → Told p i past (nodeAt nodes i)
+abbrev pub AllTold : Plan → List Node → List Passed → Type 0
+AllTold p nodes past = Each (p .nodecount) (λ i. Told p i past) nodes
 
 module _ (p : Plan) (ok : planRefusal p ≡ 0) where
   times : TimesFit (p .times)
@@ -52,104 +49,72 @@ module _ (p : Plan) (ok : planRefusal p ≡ 0) where
   pub few : p .nodecount ≤ 16
   few = nodes-few p (accepted p ok .nodes)
 
-  -- each node by itself
-  over : (f : ℕ → Node → Node) (nodes : List Node) (past past′ : List Passed) → AllTold p nodes past
-      → ((i : ℕ) → i < p .nodecount → Told p i past (nodeAt nodes i) → Told p i past′ (f i (nodeAt nodes i))) → AllTold p (eachTo f (nodesUsed (p .nodecount)) nodes) past′
-  over f nodes past past′ v g =
-      record {
-        size = each-length f (nodesUsed (p .nodecount)) nodes ∙ v .size;
-        each = λ i l. rw (each-get f (nodesUsed (p .nodecount)) nodes i noNode (used i l) (within i l)) (g i l (v .each i l));
-      }
-    where
-      used : (i : ℕ) → i < p .nodecount → i < nodesUsed (p .nodecount)
-      used i l = omega (arith, few)
-
-      within : (i : ℕ) → i < p .nodecount → i < length nodes
-      within i l = omega (arith, few, v .size)
-
-  -- node k alone
-  one : (k : ℕ) (n : Node) (nodes : List Node) (past past′ : List Passed) → AllTold p nodes past → k < p .nodecount → Told p k past′ n
-      → ((i : ℕ) → i < p .nodecount → (i ≡ k → ⊥) → Told p i past (nodeAt nodes i) → Told p i past′ (nodeAt nodes i)) → AllTold p (set nodes k n) past′
-  one k n nodes past past′ v h told others = record { size = length-set nodes k n ∙ v .size; each = λ i l. go i l (ℕ-discrete i k) }
-    where
-      within : k < length nodes
-      within = omega (arith, few, v .size)
-
-      go : (i : ℕ) → i < p .nodecount → Dec (i ≡ k) → Told p i past′ (nodeAt (set nodes k n) i)
-      go i l (yes e) = rw (e, getD-set-same nodes k n noNode within) told
-      go i l (no e) = rw (getD-set-other nodes k i n noNode e) (others i l e (v .each i l))
-
-  -- pulses are heard or not
+  -- pulses that came in the first R ticks without clock
   heard : (callers : Callers) (bus : Bus) (m : Master) (nodes : List Node) (past : List Passed) → (anyCalled callers ≡ true → offFor past ≤ p .times .recovery) → AllTold p nodes past
       → AllTold p (spread (nodesUsed (p .nodecount)) callers bus (record { master = m; nodes = nodes }) .nodes) past
   heard callers bus m nodes past early v =
-      by-test (λ (w : World). AllTold p (w .nodes) past) (anyCalled callers)
-      (λ c. by-test (λ (w : World). AllTold p (w .nodes) past) (bus .master) (λ b. pulses c) (λ b. pulses c))
-      (λ c. v)
-    where
-      pulses : anyCalled callers ≡ true → AllTold p (reachAll (Message.Pulse callers) (bus .hearing) (nodesUsed (p .nodecount)) nodes) past
-      pulses c =
-          over (λ k n. receiveIf (getD (bus .hearing) k false) (Message.Pulse callers) k n) nodes past past v
-          (λ i l s. by-test (Told p i past) (getD (bus .hearing) i false)
-          (λ h. by-test (Told p i past) (otherCalled callers i) (λ o. run-pulse (p .times) _ _ _ (nodeAt nodes i) s times (early c)) (λ o. s))
-          (λ h. s))
+      EachNode.heard (p .nodecount) few (λ i. Told p i past) callers bus m nodes (λ c i l s. run-pulse (p .times) _ _ _ (nodeAt nodes i) s (sleeps p) times (early c)) v
 
   pub tick-told : (clock stop pulse : Bool) (bus : Bus) (m : Master) (nodes : List Node) (past : List Passed) → AllTold p nodes past
       → AllTold p
-      (spread (nodesUsed (p .nodecount)) (tickCallers (p .times) clock (nodesUsed (p .nodecount)) nodes) bus
-      (record { master = m; nodes = tickedNodes (p .times) clock (nodesUsed (p .nodecount)) nodes }) .nodes)
+      (spread (nodesUsed (p .nodecount)) (tickCallers (sleeps p) (p .times) clock (nodesUsed (p .nodecount)) nodes) bus
+      (record { master = m; nodes = tickedNodes (sleeps p) (p .times) clock (nodesUsed (p .nodecount)) nodes }) .nodes)
       (ticked clock stop pulse ∷ past)
   tick-told clock stop pulse bus m nodes past v =
-      heard (tickCallers (p .times) clock (nodesUsed (p .nodecount)) nodes) bus m (tickedNodes (p .times) clock (nodesUsed (p .nodecount)) nodes) (ticked clock stop pulse ∷ past) early
-      (over (λ k n. tickStep (p .times) clock n .node) nodes past (ticked clock stop pulse ∷ past) v (λ i l s. run-tick (p .times) _ _ _ (nodeAt nodes i) s times clock))
+      heard (tickCallers (sleeps p) (p .times) clock (nodesUsed (p .nodecount)) nodes) bus m (tickedNodes (sleeps p) (p .times) clock (nodesUsed (p .nodecount)) nodes) (ticked clock stop pulse ∷ past) early
+      (over (p .nodecount) few (λ i. Told p i past) (λ i. Told p i (ticked clock stop pulse ∷ past)) nodes v (λ k n. tickStep (sleeps p) (p .times) clock n .node)
+      (λ i l s. run-tick (p .times) _ _ _ (nodeAt nodes i) s (sleeps p) times clock))
     where
-      early : anyCalled (tickCallers (p .times) clock (nodesUsed (p .nodecount)) nodes) ≡ true → offFor (ticked clock stop pulse ∷ past) ≤ p .times .recovery
+      early : anyCalled (tickCallers (sleeps p) (p .times) clock (nodesUsed (p .nodecount)) nodes) ≡ true → offFor (ticked clock stop pulse ∷ past) ≤ p .times .recovery
       early e =
-          let q = callers-some (λ k. tickStep (p .times) clock (nodeAt nodes k) .command) (nodesUsed (p .nodecount)) e in
+          let q = callers-some (λ k. tickStep (sleeps p) (p .times) clock (nodeAt nodes k) .command) (nodesUsed (p .nodecount)) e in
           let n = nodeAt nodes (q .0) in
           let l : q .0 < p .nodecount = omega (arith, q .1) in
           let s = v .each (q .0) l in
-          let told = tick-tells (p .times) (offFor past) clock n (n .state) (s .shows) (s .dark) in
+          let told = tick-tells (sleeps p) (p .times) (offFor past) clock n (n .state) (s .shows) (s .dark) in
           let call = subst (Tells n ((clock ≡ false) × (suc (offFor past) ≤ p .times .recovery)) (λ count. ⊥)) (q .2) told in
           rw (call .0) (call .1)
 
   pub wake-ask-told : (k : ℕ) (wakes : Bool) (callers : Callers) (bus : Bus) (m : Master) (nodes : List Node) (past : List Passed) → AllTold p nodes past → k < p .nodecount
-      → AllTold p (spread (nodesUsed (p .nodecount)) callers bus (record { master = m; nodes = set nodes k (wakeAskStep (nodeAt nodes k) .node) }) .nodes) (asked wakes ∷ past)
+      → AllTold p (spread (nodesUsed (p .nodecount)) callers bus (record { master = m; nodes = set nodes k (wakeAskStep (sleeps p) (nodeAt nodes k) .node) }) .nodes) (asked wakes ∷ past)
   wake-ask-told k wakes callers bus m nodes past v l =
-      heard callers bus m (set nodes k (wakeAskStep (nodeAt nodes k) .node)) (asked wakes ∷ past) (λ c. omega arith)
-      (one k (wakeAskStep (nodeAt nodes k) .node) nodes past (asked wakes ∷ past) v l (run-wake-ask (p .times) _ _ _ (nodeAt nodes k) (v .each k l) times)
+      heard callers bus m (set nodes k (wakeAskStep (sleeps p) (nodeAt nodes k) .node)) (asked wakes ∷ past) (λ c. omega arith)
+      (one (p .nodecount) few (λ i. Told p i past) (λ i. Told p i (asked wakes ∷ past)) nodes v k (wakeAskStep (sleeps p) (nodeAt nodes k) .node) l
+      (run-wake-ask (p .times) _ _ _ (nodeAt nodes k) (v .each k l) (sleeps p) times)
       (λ i h e s. run-off-ends (p .times) _ _ _ (nodeAt nodes i) s))
 
   pub asked-told : (wakes : Bool) (nodes : List Node) (past : List Passed) → AllTold p nodes past → AllTold p nodes (asked wakes ∷ past)
   asked-told wakes nodes past v = record { size = v .size; each = λ i l. run-off-ends (p .times) _ _ _ (nodeAt nodes i) (v .each i l) }
 
   pub permission-told : (k : ℕ) (word : Bool) (nodes : List Node) (past : List Passed) → AllTold p nodes past → k < p .nodecount
-      → AllTold p (set nodes k (permissionStep word (nodeAt nodes k) .node)) (nodePermits k word ∷ past)
+      → AllTold p (set nodes k (permissionStep (sleeps p) word (nodeAt nodes k) .node)) (nodePermits k word ∷ past)
   permission-told k word nodes past v l =
-      one k (permissionStep word (nodeAt nodes k) .node) nodes past (nodePermits k word ∷ past) v l
-      (rw (eq-eqb k k refl) (run-permission (p .times) _ _ _ (nodeAt nodes k) (v .each k l) times word))
+      one (p .nodecount) few (λ i. Told p i past) (λ i. Told p i (nodePermits k word ∷ past)) nodes v k (permissionStep (sleeps p) word (nodeAt nodes k) .node) l
+      (rw (eq-eqb k k refl) (run-permission (p .times) _ _ _ (nodeAt nodes k) (v .each k l) (sleeps p) times word))
       (λ i h e s. rw (ne-eqb k i (λ q. e (sym q))) s)
 
   pub request-told : (row : Lookup) (reached : List Bool) (nodes : List Node) (past : List Passed) → AllTold p nodes past
       → AllTold p (reachAll (Message.Request row) reached (nodesUsed (p .nodecount)) nodes) past
   request-told row reached nodes past v =
-      over (λ k n. receiveIf (getD reached k false) (Message.Request row) k n) nodes past past v
-      (λ i l s. by-test (Told p i past) (getD reached i false) (λ h. run-request (p .times) _ _ _ (nodeAt nodes i) s times i row) (λ h. s))
+      over (p .nodecount) few (λ i. Told p i past) (λ i. Told p i past) nodes v (λ k n. receiveIf (getD reached k false) (Message.Request row) k n)
+      (λ i l s. by-test (Told p i past) (getD reached i false) (λ h. run-request (p .times) _ _ _ (nodeAt nodes i) s (sleeps p) times i row) (λ h. s))
 
   pub publisher-told : (k : ℕ) (row : Lookup) (nodes : List Node) (past : List Passed) → AllTold p nodes past → k < p .nodecount
       → AllTold p (set nodes k (requestStep k row (nodeAt nodes k) .node)) past
   publisher-told k row nodes past v l =
-      one k (requestStep k row (nodeAt nodes k) .node) nodes past past v l (run-request (p .times) _ _ _ (nodeAt nodes k) (v .each k l) times k row) (λ i h e s. s)
+      one (p .nodecount) few (λ i. Told p i past) (λ i. Told p i past) nodes v k (requestStep k row (nodeAt nodes k) .node) l (run-request (p .times) _ _ _ (nodeAt nodes k) (v .each k l) (sleeps p) times k row) (λ i h e s. s)
 
   pub send-ask-told : (k : ℕ) (polled : Bool) (row : Lookup) (nodes : List Node) (past : List Passed) → AllTold p nodes past → k < p .nodecount
       → AllTold p (set nodes k (sendAskStep k polled row (nodeAt nodes k) .node)) past
   send-ask-told k polled row nodes past v l =
-      one k (sendAskStep k polled row (nodeAt nodes k) .node) nodes past past v l (run-send-ask (p .times) _ _ _ (nodeAt nodes k) (v .each k l) times k polled row) (λ i h e s. s)
+      one (p .nodecount) few (λ i. Told p i past) (λ i. Told p i past) nodes v k (sendAskStep k polled row (nodeAt nodes k) .node) l
+      (run-send-ask (p .times) _ _ _ (nodeAt nodes k) (v .each k l) (sleeps p) times k polled row) (λ i h e s. s)
 
   pub slept-told : (sent : Bool) (reached : List Bool) (nodes : List Node) (past : List Passed) → AllTold p nodes past
       → AllTold p (reachAll Message.SleepMessage reached (nodesUsed (p .nodecount)) nodes) (slept sent reached ∷ past)
   slept-told sent reached nodes past v =
-      over (λ k n. receiveIf (getD reached k false) Message.SleepMessage k n) nodes past (slept sent reached ∷ past) v (λ i l s. rw (taken sent) (go i (getD reached i false) s))
+      over (p .nodecount) few (λ i. Told p i past) (λ i. Told p i (slept sent reached ∷ past)) nodes v (λ k n. receiveIf (getD reached k false) Message.SleepMessage k n)
+      (λ i l s. rw (taken sent) (go i (getD reached i false) s))
     where
       taken : (b : Bool) → isResult (resultOf b) ≡ true
       taken true = refl
@@ -157,11 +122,11 @@ module _ (p : Plan) (ok : planRefusal p ≡ 0) where
 
       go : (i : ℕ) (b : Bool) → Told p i past (nodeAt nodes i)
           → InRun (p .times) (nodePermitted i past) (pick b 0 (onFor i past)) (offFor past) (receiveIf b Message.SleepMessage i (nodeAt nodes i))
-      go i true s = run-sleep-message (p .times) _ _ _ (nodeAt nodes i) s times
+      go i true s = run-sleep-message (p .times) _ _ _ (nodeAt nodes i) s true times
       go i false s = s
 
-  pub power-on-told : AllTold p (powerOn .nodes) []
-  power-on-told = record { size = refl; each = λ i l. rw (getD-replicate 16 i NodeChanges.powerOn noNode (within i l)) (run-power-on (p .times)) }
+  pub power-on-told : AllTold p (powerOn (sleeps p) .nodes) []
+  power-on-told = record { size = refl; each = λ i l. rw (getD-replicate 16 i (NodeChanges.powerOn (sleeps p)) noNode (within i l)) (run-power-on (p .times) (sleeps p)) }
     where
       within : (i : ℕ) → i < p .nodecount → i < 16
       within i l = omega (arith, few)

@@ -11,12 +11,14 @@ use Rattle.folds.proofs.First.{first-same, first-holds}
 use Rattle.machine.specs.declared.State.{State}
 use Rattle.machine.specs.State.{isNormal}
 use Rattle.plan.specs.declared.Plan.{Plan}
+use Rattle.plan.specs.Profile.{sleeps}
 use Rattle.plan.specs.Rules.{planRefusal}
 use Rattle.master.specs.declared.Hold.{Hold}
 use Rattle.master.specs.declared.Master.{Master}
 use Rattle.master.specs.declared.Phase.{Phase}
 use Rattle.master.specs.Changes.{noHold, causeNew}
 use Rattle.master.specs.Sleeping.{notHeld}
+use Rattle.master.proofs.Awake.{Awake, awake-normal}
 use Rattle.master.proofs.InRange as MasterRange
 use Rattle.master.proofs.InRun as InRun
 use Rattle.master_reason.specs.declared.Cause.{Cause}
@@ -28,11 +30,12 @@ use Rattle.bus.specs.declared.Passed.{Passed}
 use Rattle.history.specs.Run.{run}
 use Rattle.history.specs.Words.{since, isAnswerOf, ticksIn, clockLeft, sinceOn}
 use Rattle.demand.specs.Reasons.{heldSince, causeSince, firstMissing, nodeShown, underWay, owed, reasonShown, shown, ReasonShown}
+use Rattle.demand.proofs.Awake.{run-awake}
 use Rattle.demand.proofs.Causes.{given}
 use Rattle.demand.proofs.Holds.{run-told}
 use Rattle.demand.proofs.Masters.{MasterTold, own-word}
 use Rattle.demand.proofs.Phases.{isOwed, under-way-shown, owed-shown}
-use Rattle.demand.proofs.Shown.{Node}
+use Rattle.demand.proofs.Shown.{Node, Shown}
 
 -- a cause and its number
 cause-back : (c : Cause) → causeOf (causeNumber c) ≡ c
@@ -43,16 +46,16 @@ cause-back Cause.Damaged = refl
 cause-back Cause.Woken = refl
 
 -- the order of the reasons, by what a phase is called
-by-phase : (n : ℕ) (q : Phase) (m : Master) → reasonBy n q m ≡ pick (InRun.underWay q) Reason.UnderWay (pick (isOwed q) Reason.Owed (pick (m .permission) (nodeReason n m) Reason.Own))
+by-phase : (n : ℕ) (q : Phase) (m : Master) → reasonBy true n q m ≡ pick (InRun.underWay q) Reason.UnderWay (pick (isOwed q) Reason.Owed (pick (m .permission) (nodeReason n m) Reason.Own))
 by-phase n Phase.Open m = refl
 by-phase n Phase.Sending m = refl
 by-phase n Phase.Withdrawn m = refl
 by-phase n Phase.Closing m = refl
 
-by-state : (n : ℕ) (s : State) (m : Master) → explainBy n s m ≡ pick (isNormal s) (told (reasonBy n (m .phase) m)) (refused 16)
-by-state n State.Normal m = refl
-by-state n State.Standby m = refl
-by-state n State.Sleep m = refl
+by-state : (sleeps : Bool) (n : ℕ) (s : State) (m : Master) → explainBy sleeps n s m ≡ pick (isNormal s) (told (reasonBy sleeps n (m .phase) m)) (refused 16)
+by-state sleeps n State.Normal m = refl
+by-state sleeps n State.Standby m = refl
+by-state sleeps n State.Sleep m = refl
 
 module _ (p : Plan) (m : Master) (past : List Passed) where
   -- a node that is not held is shown so, and its cause is the one that is stored
@@ -87,24 +90,47 @@ module _ (p : Plan) (m : Master) (past : List Passed) where
       go false e = refl
 
 module _ (p : Plan) (ok : planRefusal p ≡ 0) where
-  of-master : (m : Master) (past : List Passed) → MasterTold p m past → explain p m ≡ shown p past
-  of-master m past v =
-      rw (eq-eqb (planRefusal p) 0 ok, MasterRange.in-range (p .nodecount) (p .times) m (v .fits))
-      (by-state (p .nodecount) (m .state) m ∙ go (clockLeft past) (v .shown .clock))
+  -- a master in range is explained by its state
+  judged : (m : Master) → (sleeps p ≡ false → Awake m) → MasterRange.Fits (p .nodecount) (p .times) m
+      → explain p m ≡ pick (isNormal (m .state)) (told (reasonBy (sleeps p) (p .nodecount) (m .phase) m)) (refused 16)
+  judged m a f =
+      rw (eq-eqb (planRefusal p) 0 ok, MasterRange.in-range (sleeps p) (p .nodecount) (p .times) m a f) (by-state (sleeps p) (p .nodecount) (m .state) m)
+
+  -- machines that never sleep
+  profile-told : (m : Master) → sleeps p ≡ false → Awake m → pick (isNormal (m .state)) (told (reasonBy (sleeps p) (p .nodecount) (m .phase) m)) (refused 16) ≡ told Reason.Profile
+  profile-told m never a = rw (never, awake-normal m a)
+
+  of-master : (m : Master) (past : List Passed) (s : Shown p m past) → MasterTold p m past
+      → pick (isNormal (m .state)) (told (reasonBy true (p .nodecount) (m .phase) m)) (refused 16) ≡ pick (clockLeft past) (told (reasonShown p past)) (refused 16)
+  of-master m past s v = go (clockLeft past) (s .clock)
     where
-      same : isNormal (m .state) ≡ true → reasonBy (p .nodecount) (m .phase) m ≡ reasonShown p past
+      same : isNormal (m .state) ≡ true → reasonBy true (p .nodecount) (m .phase) m ≡ reasonShown p past
       same on =
           by-phase (p .nodecount) (m .phase) m
           ∙ ap (λ (b : Bool). pick b Reason.UnderWay (pick (isOwed (m .phase)) Reason.Owed (pick (m .permission) (nodeReason (p .nodecount) m) Reason.Own)))
-          (ap InRun.underWay (v .shown .phase) ∙ sym (under-way-shown past))
+          (ap InRun.underWay (s .phase) ∙ sym (under-way-shown past))
           ∙ ap (λ (b : Bool). pick (underWay past) Reason.UnderWay (pick b Reason.Owed (pick (m .permission) (nodeReason (p .nodecount) m) Reason.Own)))
-          (ap isOwed (v .shown .phase) ∙ sym (owed-shown past))
+          (ap isOwed (s .phase) ∙ sym (owed-shown past))
           ∙ ap₂ (λ (b : Bool) (r : Reason). pick (underWay past) Reason.UnderWay (pick (owed past) Reason.Owed (pick b r Reason.Own)))
-          (own-word p m past v) (nodes-same p m past (v .shown .nodes on))
+          (own-word p m past v) (nodes-same p m past (s .nodes on))
 
-      go : (b : Bool) → isNormal (m .state) ≡ b → pick (isNormal (m .state)) (told (reasonBy (p .nodecount) (m .phase) m)) (refused 16) ≡ pick b (told (reasonShown p past)) (refused 16)
+      go : (b : Bool) → isNormal (m .state) ≡ b → pick (isNormal (m .state)) (told (reasonBy true (p .nodecount) (m .phase) m)) (refused 16) ≡ pick b (told (reasonShown p past)) (refused 16)
       go true on = rw on (ap told (same on))
       go false off = rw off
 
   pub reasons : (moves : List Move) → ReasonShown p moves
-  reasons moves = of-master (run p moves .world .master) (run p moves .past) (run-told p ok moves .master)
+  reasons moves = judged m awake (v .fits) ∙ go (sleeps p) refl
+    where
+      m : Master
+      m = run p moves .world .master
+
+      v : MasterTold p m (run p moves .past)
+      v = run-told p ok moves .master
+
+      awake : sleeps p ≡ false → Awake m
+      awake never = run-awake p ok never moves .awake .master
+
+      go : (s : Bool) → sleeps p ≡ s
+          → pick (isNormal (m .state)) (told (reasonBy (sleeps p) (p .nodecount) (m .phase) m)) (refused 16) ≡ shown p (run p moves .past)
+      go true e = rw e (of-master m (run p moves .past) (v .shown e) v)
+      go false e = profile-told m e (awake e) ∙ rw e

@@ -534,7 +534,7 @@ module _ (p : Plan) (few : p .nodecount ≤ 16) (past : List Passed) where
           (λ y. changed (hold j (withCause causeNew j (withCounts counts m))) (Causes.given 0) causeNew refl (v .phase ∙ calm (rw (z, x, y))) refl refl (rw (z, x)) (rw (z, x, y)) (rw (z, x, y)))
           (λ y. lost causeRefused counts (rw (z, x, y)) (rw (z, x)) (rw (z, x, y))))
 
-pub power-on : (p : Plan) → Shown p powerOn []
+pub power-on : (p : Plan) → Shown p (powerOn true) []
 power-on p =
     record {
       holds = length-replicate 16 noHold;

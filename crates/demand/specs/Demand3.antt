@@ -8,6 +8,7 @@ use Rattle.machine.specs.declared.State.{State}
 use Rattle.plan.specs.declared.Plan.{Plan}
 use Rattle.plan.specs.declared.Row.{Row}
 use Rattle.plan.specs.declared.Times.{Times}
+use Rattle.plan.specs.Profile.{sleeps}
 use Rattle.node.specs.declared.Node.{Node}
 use Rattle.master.specs.declared.Answer.{Answer}
 use Rattle.master.specs.Answers.{isWhole}
@@ -85,7 +86,20 @@ wakingTime t = t .sleep + 2
 abbrev pub Wakes : Plan → List Passed → List Node → Type 0
 Wakes p past nodes = WakesAfter (wakingTime (p .times)) p past nodes
 
-pub record Demand3 (p : Plan) (moves : List Move) : Type 0 where
+-- the demand on machines that sleep and wake
+pub record SleepsAndWakes (p : Plan) (moves : List Move) : Type 0 where
   pub stops : StopsAgreed p (run p moves .past)
   pub settles : Settles p (run p moves .past) (run p moves .world .nodes)
   pub wakes : Wakes p (run p moves .past) (run p moves .world .nodes)
+
+-- W-206, on those that never sleep: "(b) has nothing to say, and (c) holds at all times", before any move too; no tick stops the clock
+pub record StaysAwake (p : Plan) (moves : List Move) : Type 0 where
+  pub runs : none isStop (run p moves .past) ≡ true
+  pub awake : (i : ℕ) → i < p .nodecount → (nodeAt (run p moves .world .nodes) i .state ≡ State.Normal) × (nodeAt (run p moves .world .nodes) i .error ≡ false)
+
+abbrev pub DemandBy : Bool → Plan → List Move → Type 0
+DemandBy true p moves = SleepsAndWakes p moves
+DemandBy false p moves = StaysAwake p moves
+
+abbrev pub Demand3 : Plan → List Move → Type 0
+Demand3 p moves = DemandBy (sleeps p) p moves

@@ -6,6 +6,7 @@ use mathlib.Core.List.{List}
 use lib.Dec.{leb, ltb}
 use Rattle.folds.specs.Fold.{pick, firstTo}
 use Rattle.plan.specs.declared.Plan.{Plan}
+use Rattle.plan.specs.Profile.{sleeps}
 use Rattle.master.specs.Answers.{isWhole}
 use Rattle.master_reason.specs.declared.Cause.{Cause}
 use Rattle.master_reason.specs.declared.Explained.{Explained}
@@ -62,9 +63,9 @@ reasonShown p past =
     (pick (owed past) Reason.Owed
     (pick (masterPermitted past) (nodeShown p past) Reason.Own))
 
--- "refused 16 exactly when there was no tick yet or the last one left the clock off"
+-- "refused 16 exactly when there was no tick yet or the last one left the clock off"; W-206: "the profile itself as the reason, before all others"
 abbrev pub shown : Plan → List Passed → Explained
-shown p past = pick (clockLeft past) (told (reasonShown p past)) (refused 16)
+shown p past = pick (sleeps p) (pick (clockLeft past) (told (reasonShown p past)) (refused 16)) (told Reason.Profile)
 
 -- what is told of the master after a list of moves is what the list shows
 abbrev pub ReasonShown : Plan → List Move → Type 0

@@ -9,6 +9,7 @@ use native.Mathlib.Omega.{arith}
 use Rattle.folds.specs.Fold.{pick}
 use Rattle.plan.specs.declared.Plan.{Plan}
 use Rattle.bus.specs.declared.World.{World}
+use Rattle.plan.specs.Profile.{sleeps}
 use Rattle.bus.specs.World.{powerOn}
 use Rattle.drill_line.specs.Words.{noNumber, longer, cut}
 use Rattle.drill_line.specs.Parse.{parseLine}
@@ -103,7 +104,7 @@ module _ (plan : Plan) (few : plan .nodecount ≤ noNumber) where
   -- the whole input, from power-on
   pub by-lines : (input : List ℕ) → allSaid (started plan) input ≡ drillText plan input
   unfolding holdAll
-  by-lines input = right input powerOn 0 [] ∙ ap (linesText plan powerOn 0) (behind-none (cut-some 10 input))
+  by-lines input = right input (powerOn (sleeps plan)) 0 [] ∙ ap (linesText plan (powerOn (sleeps plan)) 0) (behind-none (cut-some 10 input))
 
 -- in two pieces as in one
 pub in-pieces : (d : Drill) (a b : List ℕ) → allSaid d (a ++ b) ≡ said d a ++ allSaid (fed d a) b

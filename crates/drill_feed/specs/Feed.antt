@@ -11,6 +11,7 @@ use Rattle.bus.specs.declared.Act.{Act}
 use Rattle.bus.specs.declared.Fate.{Fate}
 use Rattle.bus.specs.declared.World.{World}
 use Rattle.bus.specs.declared.Moved.{Moved}
+use Rattle.plan.specs.Profile.{sleeps}
 use Rattle.bus.specs.World.{powerOn}
 use Rattle.bus.specs.Moves.{worldAct}
 use Rattle.text.specs.Text.{Appended, Shown}
@@ -51,7 +52,7 @@ linesText plan world lines (l ∷ m ∷ more) =
 
 -- what the drill prints for an input, from power-on
 abbrev pub drillText : Plan → List ℕ → List ℕ
-drillText plan input = linesText plan powerOn 0 (cut 10 input)
+drillText plan input = linesText plan (powerOn (sleeps plan)) 0 (cut 10 input)
 
 -- the same byte by byte, as the input comes
 
@@ -73,7 +74,7 @@ abbrev pub heldText : Held → List ℕ
 heldText held = take (held .count) (held .bytes)
 
 abbrev pub started : Plan → Drill
-started plan = record { plan = plan; world = powerOn; lines = 0; held = emptyHeld }
+started plan = record { plan = plan; world = powerOn (sleeps plan); lines = 0; held = emptyHeld }
 
 abbrev pub heldLine : Drill → Line
 heldLine d = parseLine (heldText (d .held)) (d .plan .nodecount)

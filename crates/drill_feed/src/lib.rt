@@ -95,7 +95,7 @@ impl Drill {
     {
         Drill {
             plan,
-            world: World::power_on(),
+            world: World::power_on(plan.sleeps()),
             lines: 0,
             held: Held::empty(),
         }

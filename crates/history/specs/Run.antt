@@ -7,6 +7,7 @@ use Rattle.bus.specs.Moves.{worldAct}
 use Rattle.bus.specs.declared.Moved.{Moved}
 use Rattle.bus.specs.declared.Passed.{Passed}
 use Rattle.bus.specs.World.{powerOn}
+use Rattle.plan.specs.Profile.{sleeps}
 
 -- the machines after some moves, and what passed in each, the latest first: the past grows at its head as the list runs
 pub record Run : Type 0 where
@@ -14,8 +15,8 @@ pub record Run : Type 0 where
   pub past : List Passed
 
 -- "The first starts from power-on .. nothing else writes them"
-abbrev pub start : Run
-start = record { world = powerOn; past = [] }
+abbrev pub start : Plan → Run
+start p = record { world = powerOn (sleeps p); past = [] }
 
 abbrev pub then : Run → Moved → Run
 then r o = record { world = o .world; past = o .passed ∷ r .past }
@@ -26,4 +27,4 @@ runFrom p r [] = r
 runFrom p r (m ∷ moves) = runFrom p (then r (worldAct p (r .world) m)) moves
 
 abbrev pub run : Plan → List Move → Run
-run p moves = runFrom p start moves
+run p moves = runFrom p (start p) moves

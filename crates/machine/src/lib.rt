@@ -4,7 +4,7 @@ ghost use Prim.Native.Nat.{_≤_};
 ghost use lib.Dec.{ltb, eqb};
 ghost use lib.ListN.{getD, set};
 ghost use Rattle.machine.specs.Counts.{countsBelow};
-ghost use Rattle.machine.specs.State.{isNormal};
+ghost use Rattle.machine.specs.State.{isNormal, startState};
 use plan::Row;
 
 mod bytes;
@@ -28,6 +28,13 @@ pub fn is_normal(state: State) -> bool
         State::Standby => false,
         State::Sleep => false,
     }
+}
+
+// The state at power-on.
+pub fn start_state(sleeps: bool) -> State
+    ensures { λ r. ⌜ r ≡ startState sleeps ⌝ }
+{
+    if sleeps { State::Sleep } else { State::Normal }
 }
 
 // The count of a ReqId, 0 past the table.

@@ -3,6 +3,7 @@ ghost use mathlib.Core.Path.{_≡_};
 ghost use Rattle.master.specs.Changes.{powerOn, silent, commands, refuse};
 ghost use Rattle.master.specs.Step.{eventRight, rowAsked, actWith, stepWith, stepUnder, judgedStep, masterStep};
 use machine::State;
+use machine::start_state;
 use plan::Lookup;
 use plan::Plan;
 use plan::Row;
@@ -176,12 +177,11 @@ impl Master {
 
     pub const WAKE: u8 = 4;
 
-    // A machine that never sleeps starts in Normal.
     pub fn power_on(sleeps: bool) -> Master
         ensures { λ r. ⌜ r ≡ powerOn sleeps ⌝ }
     {
-        let asleep = Master {
-            state: State::Sleep,
+        Master {
+            state: start_state(sleeps),
             phase: Phase::Open,
             permission: false,
             holds: [Master::NO_HOLD; Plan::NODES],
@@ -189,14 +189,6 @@ impl Master {
             counts: [Master::NO_COUNT; Row::REQIDS],
             delay: 0,
             ticks: 0,
-        };
-        if sleeps {
-            asleep
-        } else {
-            Master {
-                state: State::Normal,
-                ..asleep
-            }
         }
     }
 

@@ -8,6 +8,7 @@ use lib.ListN.{length, drop, replicate, length-append}
 use native.Mathlib.Omega.{arith}
 use borrow.Author.Tests.{le-ltb, ne-eqb}
 use Rattle.plan.specs.declared.Plan.{Plan}
+use Rattle.plan.specs.Profile.{sleeps}
 use Rattle.plan.specs.Rules.{planRefusal}
 use Rattle.master.specs.declared.Master.{Master}
 use Rattle.master.specs.declared.Event.{Event}
@@ -113,5 +114,5 @@ module _ (p : Plan) where
   plan-refuses m n e = rw (ne-eqb (planRefusal p) 0 n)
 
   -- and a state out of range 11
-  pub state-refuses : (m : Master) → planRefusal p ≡ 0 → inRange (p .nodecount) (p .times) m ≡ false → (e : Event) → masterStep p m e ≡ refuse m 11
+  pub state-refuses : (m : Master) → planRefusal p ≡ 0 → inRange (sleeps p) (p .nodecount) (p .times) m ≡ false → (e : Event) → masterStep p m e ≡ refuse m 11
   state-refuses m z o e = rw (z, o)

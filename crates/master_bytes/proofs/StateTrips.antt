@@ -1,7 +1,7 @@
 -- A master and its bytes, each back into the other.
 use Prim.Native.Nat.{ℕ, zero, suc, _+_, _*_, _-_, _/_, _%_, _<_}
 use mathlib.Core.Path.{_≡_, refl, ap, sym, _∙_}
-use mathlib.Core.Bool.{true, false}
+use mathlib.Core.Bool.{Bool, true, false}
 use mathlib.Core.List.{List, _++_}
 use lib.ListN.{length, getD, set, replicate, length-append, List·getD-append}
 use lib.Seq.{sets, getD-append-add}
@@ -17,6 +17,7 @@ use Rattle.blocks.specs.Bytes.{byte, highByte, lowByte, tableAt}
 use Rattle.blocks.proofs.Halves.{from-halves, high-at, low-at, long-high-at, long-low-at, from-quarters}
 use Rattle.blocks.proofs.Parts.{head-and-rest}
 use Rattle.machine.specs.declared.State.{State}
+use Rattle.machine.specs.State.{startState}
 use Rattle.machine.specs.Bytes.{stateByte, stateOf, flagOf}
 use Rattle.machine.proofs.ByteTrips.{state-back, state-byte-back, state-byte-low, flag-back, flag-byte-back, flag-byte-low}
 use Rattle.master.specs.declared.Phase.{Phase}
@@ -64,11 +65,16 @@ master-put m long buffer head permissions x y z w h p e f g k =
     k ∙ rw (counts, ← v) (sets-append (masterHead m ++ holdsBytes (m .holds) ++ m .counts) (m .causes) buffer 0)
 
 -- power-on: the front, the counts and the causes as they are
-pub power-on-put : (buffer x y z : List ℕ) (state : ℕ) → state ≡ stateByte State.Sleep → x ≡ sets buffer 0 (set (replicate 57 0) 0 state) → y ≡ sets x 57 noCounts
-    → z ≡ sets y 185 noCauses → z ≡ sets buffer 0 (masterBytes powerOn)
+pub power-on-put : (sleeps : Bool) (buffer x y z : List ℕ) (state : ℕ) → state ≡ stateByte (startState sleeps) → x ≡ sets buffer 0 (set (replicate 57 0) 0 state) → y ≡ sets x 57 noCounts
+    → z ≡ sets y 185 noCauses → z ≡ sets buffer 0 (masterBytes (powerOn sleeps))
 unfolding masterBytes holdsBytes tab
-power-on-put buffer x y z state h e f g =
-    g ∙ rw (f, e, h, sets-append (set (replicate 57 0) 0 2) noCounts buffer 0) (sets-append (set (replicate 57 0) 0 2 ++ noCounts) noCauses buffer 0)
+power-on-put sleeps buffer x y z state h e f g =
+    g ∙ rw (f, e, sets-append (set (replicate 57 0) 0 state) noCounts buffer 0) (sets-append (set (replicate 57 0) 0 state ++ noCounts) noCauses buffer 0)
+    ∙ ap (λ b. sets buffer 0 (set (replicate 57 0) 0 b ++ noCounts ++ noCauses)) h ∙ packed sleeps
+  where
+    packed : (s : Bool) → sets buffer 0 (set (replicate 57 0) 0 (stateByte (startState s)) ++ noCounts ++ noCauses) ≡ sets buffer 0 (masterBytes (powerOn s))
+    packed true = refl
+    packed false = refl
 
 module _ (m : Master) (holds-long : length (m .holds) ≡ 16) (counts-long : length (m .counts) ≡ 128) (causes-long : length (m .causes) ≡ 16) where
   front-byte : (o : ℕ) → o < 57 → byte (masterBytes m) o ≡ getD (masterHead m ++ holdsBytes (m .holds)) o 0

@@ -73,7 +73,7 @@ masterFrom s =
 
 -- a master out of range under every plan: "a delay below C in Standby, below D in Closing, else 0"
 abbrev pub noMaster : Master
-noMaster = withDelay 1 powerOn
+noMaster = withDelay 1 (powerOn true)
 
 -- the master of bytes; of bytes that are no state one that each step refuses as 11
 abbrev pub masterOf : List ℕ → Master

@@ -20,7 +20,7 @@ use blocks::long_number;
 use blocks::number_at;
 use blocks::put;
 use blocks::table_at;
-use machine::State;
+use machine::start_state;
 use machine::flag_byte;
 use machine::state_byte;
 use machine::state_of;
@@ -107,11 +107,11 @@ pub fn put_master(buffer: &mut [u8], master: Master)
 }
 
 // Puts the state at power-on at the front of a buffer: constants, which the compiler stores without reckoning them from a master.
-pub fn put_power_on(buffer: &mut [u8])
-    ensures { λ _. ⌜ now (buffer .exit) ≡ sets (now (buffer .entry)) 0 (masterBytes powerOn) ⌝ }
+pub fn put_power_on(buffer: &mut [u8], sleeps: bool)
+    ensures { λ _. ⌜ now (buffer .exit) ≡ sets (now (buffer .entry)) 0 (masterBytes (powerOn sleeps)) ⌝ }
 {
     let mut front = [0; COUNTS_AT];
-    front[STATE_AT] = state_byte(State::Sleep);
+    front[STATE_AT] = state_byte(start_state(sleeps));
     let counts = [Master::NO_COUNT; Row::REQIDS];
     let causes = [Master::NEW; Plan::NODES];
     put(buffer, 0, &front[..]);
@@ -204,7 +204,7 @@ fn no_master() -> Master
 {
     Master {
         delay: 1,
-        ..Master::power_on()
+        ..Master::power_on(true)
     }
 }
 

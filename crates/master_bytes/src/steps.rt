@@ -29,5 +29,11 @@ pub fn step_on(plan: &[u8], state: &[u8], event: Event) -> Reply
 {
     let row = row_for(plan, event);
     let times = plan_bytes::times_of(plan);
-    master_of(state).step_with(plan_bytes::node_count(plan), times, row, event)
+    master_of(state).step_with(
+        plan_bytes::sleeps(plan),
+        plan_bytes::node_count(plan),
+        times,
+        row,
+        event,
+    )
 }

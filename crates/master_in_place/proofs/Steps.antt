@@ -18,6 +18,7 @@ use Rattle.plan.specs.declared.Lookup.{Lookup}
 use Rattle.plan.specs.Limits.{reqids, seqCounts}
 use Rattle.plan.specs.Answers.{masterNumber, isCounted, accepts}
 use Rattle.plan.specs.Find.{findRow, risingRow}
+use Rattle.plan.specs.Profile.{sleeps}
 use Rattle.plan.specs.Rules.{planRefusal}
 use Rattle.plan.proofs.Accepted.{accepted, nodes-few}
 use Rattle.plan.proofs.Lookups.{found-row, found-publisher}
@@ -44,7 +45,7 @@ quiet-by t State.Normal Phase.Sending n e = refl
 quiet-by t State.Normal Phase.Withdrawn n e = refl
 quiet-by t State.Normal Phase.Closing n e = no-way e
 
-module _ (p : Plan) (m : Master) (e : EventRecord) (ok : planRefusal p ≡ 0) (right : inRange (p .nodecount) (p .times) m ≡ true) where
+module _ (p : Plan) (m : Master) (e : EventRecord) (ok : planRefusal p ≡ 0) (right : inRange (sleeps p) (p .nodecount) (p .times) m ≡ true) where
   pub quiet-tick : isQuiet (masterBytes m) e ≡ true → masterStep p m (eventOf e) ≡ silent (aged (p .times .window) m)
   unfolding masterBytes
   quiet-tick q =
@@ -94,7 +95,7 @@ pub record Keeps (p : Plan) (m : Master) (e : EventRecord) (row : Row) : Type 0 
   pub reqid : row .reqid < 128
   pub step : masterStep p m (eventOf e) ≡ reports (pick (isCounted row) (lostAfter (getD (m .counts) (row .reqid) 0) (e .count)) 0) (keeps row (e .count) m)
 
-pub kept-answer : (p : Plan) (m : Master) (e : EventRecord) (row : Row) → planRefusal p ≡ 0 → inRange (p .nodecount) (p .times) m ≡ true → isKept (masterBytes m) e ≡ true
+pub kept-answer : (p : Plan) (m : Master) (e : EventRecord) (row : Row) → planRefusal p ≡ 0 → inRange (sleeps p) (p .nodecount) (p .times) m ≡ true → isKept (masterBytes m) e ≡ true
     → accepting (risingRow p (e .reqid)) (e .length) ≡ Lookup.Found row → Keeps p m e row
 unfolding masterBytes
 kept-answer p m e row ok right k a =

@@ -9,6 +9,7 @@ use Rattle.folds.proofs.AllAny.{and-l, and-r}
 use Rattle.folds.proofs.Choices.{no-way}
 use Rattle.machine.specs.declared.State.{State}
 use Rattle.plan.specs.declared.Plan.{Plan}
+use Rattle.plan.specs.Profile.{sleeps}
 use Rattle.plan.specs.Rules.{planRefusal}
 use Rattle.master.specs.declared.Command.{Command}
 use Rattle.master.specs.declared.Event.{Event}
@@ -30,6 +31,7 @@ isNothing Reason.UnderWay = false
 isNothing Reason.Owed = false
 isNothing Reason.Own = false
 isNothing (Reason.Node node cause) = false
+isNothing Reason.Profile = false
 
 abbrev free : Explained → Bool
 free e = eqb (e .refusal) 0 && isNothing (e .reason)
@@ -43,6 +45,7 @@ is-free e h = λ i. record { refusal = eqb-true (e .refusal) 0 (and-l (eqb (e .r
     nothing Reason.Owed q = no-way q
     nothing Reason.Own q = no-way q
     nothing (Reason.Node node cause) q = no-way q
+    nothing Reason.Profile q = no-way q
 
 -- free and accepted are one, state by state and phase by phase
 module _ (n : ℕ) (m : Master) where
@@ -53,20 +56,21 @@ module _ (n : ℕ) (m : Master) where
   in-open true false node named cause = refl
   in-open false some node named cause = refl
 
-  by-phase : (phase : Phase) → free (told (reasonBy n phase m)) ≡ eqb (sleepAskBy n State.Normal phase m .refusal) 0
-  by-phase Phase.Open = in-open (m .permission) (ltb (firstTo (notHeld (m .holds)) n) n) (firstTo (notHeld (m .holds)) n) _ _
-  by-phase Phase.Sending = refl
-  by-phase Phase.Withdrawn = refl
-  by-phase Phase.Closing = refl
+  by-phase : (sleeps : Bool) (phase : Phase) → free (told (reasonBy sleeps n phase m)) ≡ eqb (sleepAskBy n State.Normal sleeps phase m .refusal) 0
+  by-phase false phase = refl
+  by-phase true Phase.Open = in-open (m .permission) (ltb (firstTo (notHeld (m .holds)) n) n) (firstTo (notHeld (m .holds)) n) _ _
+  by-phase true Phase.Sending = refl
+  by-phase true Phase.Withdrawn = refl
+  by-phase true Phase.Closing = refl
 
-  by-state : (s : State) → free (explainBy n s m) ≡ eqb (sleepAskBy n s (m .phase) m .refusal) 0
-  by-state State.Normal = by-phase (m .phase)
-  by-state State.Standby = refl
-  by-state State.Sleep = refl
+  by-state : (sleeps : Bool) (s : State) → free (explainBy sleeps n s m) ≡ eqb (sleepAskBy n s sleeps (m .phase) m .refusal) 0
+  by-state sleeps State.Normal = by-phase sleeps (m .phase)
+  by-state sleeps State.Standby = refl
+  by-state sleeps State.Sleep = refl
 
-module _ (p : Plan) (m : Master) (ok : planRefusal p ≡ 0) (right : inRange (p .nodecount) (p .times) m ≡ true) where
+module _ (p : Plan) (m : Master) (ok : planRefusal p ≡ 0) (right : inRange (sleeps p) (p .nodecount) (p .times) m ≡ true) where
   same : free (explain p m) ≡ eqb (masterStep p m Event.SleepAsk .refusal) 0
-  same = rw (eq-eqb (planRefusal p) 0 ok, right) (by-state (p .nodecount) m (m .state))
+  same = rw (eq-eqb (planRefusal p) 0 ok, right) (by-state (p .nodecount) m (sleeps p) (m .state))
 
   pub nothing-accepted : explain p m ≡ told Reason.Nothing → masterStep p m Event.SleepAsk .refusal ≡ 0
   nothing-accepted e = eqb-true (masterStep p m Event.SleepAsk .refusal) 0 (sym same ∙ ap free e)

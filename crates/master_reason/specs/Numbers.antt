@@ -13,10 +13,11 @@ causeNumber Cause.Aged = causeAged
 causeNumber Cause.Damaged = causeDamaged
 causeNumber Cause.Woken = causeWake
 
--- reason, node and cause; 5 is kept for the profile of W-206
+-- reason, node and cause
 abbrev pub reasonNumbers : Reason → List ℕ
 reasonNumbers Reason.Nothing = 0 ∷ 0 ∷ 0 ∷ []
 reasonNumbers Reason.UnderWay = 1 ∷ 0 ∷ 0 ∷ []
 reasonNumbers Reason.Owed = 2 ∷ 0 ∷ 0 ∷ []
 reasonNumbers Reason.Own = 3 ∷ 0 ∷ 0 ∷ []
 reasonNumbers (Reason.Node node cause) = 4 ∷ node ∷ causeNumber cause ∷ []
+reasonNumbers Reason.Profile = 5 ∷ 0 ∷ 0 ∷ []

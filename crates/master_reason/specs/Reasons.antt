@@ -1,11 +1,13 @@
 -- W-205: "For any accepted plan and master state in Normal give the first true reason of these".
 use Prim.Native.Nat.{ℕ}
+use mathlib.Core.Bool.{Bool, true, false}
 use lib.Dec.{ltb, eqb}
 use lib.ListN.{getD}
 use Rattle.folds.specs.Fold.{pick, firstTo}
 use Rattle.machine.specs.declared.State.{State}
 use Rattle.plan.specs.declared.Plan.{Plan}
 use Rattle.plan.specs.declared.Times.{Times}
+use Rattle.plan.specs.Profile.{sleeps}
 use Rattle.plan.specs.Rules.{planRefusal}
 use Rattle.master.specs.declared.Master.{Master}
 use Rattle.master.specs.declared.Phase.{Phase}
@@ -31,12 +33,14 @@ nodeReason nodecount m =
     (Reason.Node (firstTo (notHeld (m .holds)) nodecount) (causeOf (getD (m .causes) (firstTo (notHeld (m .holds)) nodecount) causeNew)))
     Reason.Nothing
 
--- "sleep under way; result of a called-back message owed; own permission missing; or the lowest node not held"
-abbrev pub reasonBy : ℕ → Phase → Master → Reason
-reasonBy nodecount Phase.Open m = pick (m .permission) (nodeReason nodecount m) Reason.Own
-reasonBy nodecount Phase.Sending m = Reason.UnderWay
-reasonBy nodecount Phase.Withdrawn m = Reason.Owed
-reasonBy nodecount Phase.Closing m = Reason.UnderWay
+-- "sleep under way; result of a called-back message owed; own permission missing; or the lowest node not held"; W-206: "the profile itself
+-- as the reason, before all others"
+abbrev pub reasonBy : Bool → ℕ → Phase → Master → Reason
+reasonBy false nodecount phase m = Reason.Profile
+reasonBy true nodecount Phase.Open m = pick (m .permission) (nodeReason nodecount m) Reason.Own
+reasonBy true nodecount Phase.Sending m = Reason.UnderWay
+reasonBy true nodecount Phase.Withdrawn m = Reason.Owed
+reasonBy true nodecount Phase.Closing m = Reason.UnderWay
 
 abbrev pub told : Reason → Explained
 told reason = record { refusal = 0; reason = reason }
@@ -45,15 +49,15 @@ abbrev pub refused : ℕ → Explained
 refused number = record { refusal = number; reason = Reason.Nothing }
 
 -- "16 outside Normal"
-abbrev pub explainBy : ℕ → State → Master → Explained
-explainBy nodecount State.Normal m = told (reasonBy nodecount (m .phase) m)
-explainBy nodecount State.Standby m = refused 16
-explainBy nodecount State.Sleep m = refused 16
+abbrev pub explainBy : Bool → ℕ → State → Master → Explained
+explainBy sleeps nodecount State.Normal m = told (reasonBy sleeps nodecount (m .phase) m)
+explainBy sleeps nodecount State.Standby m = refused 16
+explainBy sleeps nodecount State.Sleep m = refused 16
 
 -- "the state's range check 11 covers the new field"
-abbrev pub explainWith : ℕ → Times → Master → Explained
-explainWith nodecount t m = pick (inRange nodecount t m) (explainBy nodecount (m .state) m) (refused 11)
+abbrev pub explainWith : Bool → ℕ → Times → Master → Explained
+explainWith sleeps nodecount t m = pick (inRange sleeps nodecount t m) (explainBy sleeps nodecount (m .state) m) (refused 11)
 
 -- "plan 4 to 8 first", and 3 "before 4"
 abbrev pub explain : Plan → Master → Explained
-explain p m = pick (eqb (planRefusal p) 0) (explainWith (p .nodecount) (p .times) m) (refused (planRefusal p))
+explain p m = pick (eqb (planRefusal p) 0) (explainWith (sleeps p) (p .nodecount) (p .times) m) (refused (planRefusal p))

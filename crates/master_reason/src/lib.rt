@@ -28,6 +28,8 @@ pub enum Reason {
     Owed,
     Own,
     Node { node: u8, cause: Cause },
+    // the panel never sleeps (W-206)
+    Profile,
 }
 
 // The reason, or a refusal's number and no reason.
@@ -87,34 +89,38 @@ fn node_reason(nodecount: u8, master: Master) -> Reason
     }
 }
 
-fn reason_by(nodecount: u8, phase: Phase, master: Master) -> Reason
-    ensures { λ r. ⌜ r ≡ reasonBy nodecount phase master ⌝ }
+fn reason_by(sleeps: bool, nodecount: u8, phase: Phase, master: Master) -> Reason
+    ensures { λ r. ⌜ r ≡ reasonBy sleeps nodecount phase master ⌝ }
 {
-    match phase {
-        Phase::Open => {
-            if master.permission {
-                node_reason(nodecount, master)
-            } else {
-                Reason::Own
+    if sleeps {
+        match phase {
+            Phase::Open => {
+                if master.permission {
+                    node_reason(nodecount, master)
+                } else {
+                    Reason::Own
+                }
             }
+            Phase::Sending => Reason::UnderWay,
+            Phase::Withdrawn => Reason::Owed,
+            Phase::Closing => Reason::UnderWay,
         }
-        Phase::Sending => Reason::UnderWay,
-        Phase::Withdrawn => Reason::Owed,
-        Phase::Closing => Reason::UnderWay,
+    } else {
+        Reason::Profile
     }
 }
 
-// Where the plan is judged: by its number of nodes and its times.
-pub fn explain_with(nodecount: u8, times: Times, master: Master) -> Explained
-    ensures { λ r. ⌜ r ≡ explainWith nodecount times master ⌝ }
+// Where the plan is judged: by whether its machines sleep, its number of nodes and its times.
+pub fn explain_with(sleeps: bool, nodecount: u8, times: Times, master: Master) -> Explained
+    ensures { λ r. ⌜ r ≡ explainWith sleeps nodecount times master ⌝ }
 {
-    if !master.in_range(nodecount, times) {
+    if !master.in_range(sleeps, nodecount, times) {
         return refused(11);
     }
     let state = master.state;
     let phase = master.phase;
     match state {
-        State::Normal => told(reason_by(nodecount, phase, master)),
+        State::Normal => told(reason_by(sleeps, nodecount, phase, master)),
         State::Standby => refused(16),
         State::Sleep => refused(16),
     }
@@ -127,7 +133,7 @@ pub fn explain(plan: Plan, master: Master) -> Explained
     let refusal = plan_refusal(plan);
     if refusal == 0 {
         let times = plan.times;
-        explain_with(plan.nodecount, times, master)
+        explain_with(plan.sleeps(), plan.nodecount, times, master)
     } else {
         refused(refusal)
     }
@@ -155,5 +161,6 @@ pub fn reason_numbers(reason: Reason) -> [u8; 3]
         Reason::Owed => [2, 0, 0],
         Reason::Own => [3, 0, 0],
         Reason::Node { node, cause } => [4, node, cause_number(cause)],
+        Reason::Profile => [5, 0, 0],
     }
 }

@@ -28,13 +28,21 @@ use Rattle.node.proofs.Cases.{split, request-keeps, send-ask-keeps}
 abbrev pub Awake : Node → Type 0
 Awake n = isAwake (n .state) (n .delay) ≡ true
 
+pub node-normal : (n : Node) → Awake n → n .state ≡ State.Normal
+node-normal n a = go (n .state) (n .delay) a
+  where
+    go : (s : State) (d : Delay) → isAwake s d ≡ true → s ≡ State.Normal
+    go State.Normal d a = refl
+    go State.Standby d a = no-way a
+    go State.Sleep d a = no-way a
+
 -- with what else holds of a reply's node where it stays awake
 module _ (P : Bool → Type 0) where
   abbrev Stays : Reply → Type 0
   Stays r = Awake (r .node) × P (r .node .error)
 
   -- where P holds of each error, or of none and the clock is on
-  abbrev Clear : Bool → Type 0
+  abbrev pub Clear : Bool → Type 0
   Clear true = P false
   Clear false = (error : Bool) → P error
 

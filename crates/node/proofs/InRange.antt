@@ -1,6 +1,6 @@
 -- From a state in range, under an accepted plan, every step gives a state in range.
 use Prim.Native.Nat.{ℕ, _+_, _*_, _≤_, _<_}
-use mathlib.Core.Path.{_≡_, refl}
+use mathlib.Core.Path.{_≡_, refl, sym}
 use mathlib.Core.Bool.{Bool, true, false, _&&_, _||_}
 use mathlib.Core.List.{List}
 use lib.Dec.{leb, ltb, eqb}
@@ -9,7 +9,7 @@ use native.Mathlib.Omega.{arith}
 use borrow.Author.Tests.{lt-ltb, le-leb, leb-true, ltb-true}
 use Rattle.folds.specs.Fold.{pick, allTo}
 use Rattle.folds.proofs.AllAny.{and-l, and-r}
-use Rattle.folds.proofs.Choices.{by-test}
+use Rattle.folds.proofs.Choices.{by-test, no-way}
 use Rattle.machine.specs.declared.State.{State}
 use Rattle.machine.specs.Counts.{countsBelow}
 use Rattle.machine.proofs.CountTables.{counts-set}
@@ -25,7 +25,7 @@ use Rattle.node.specs.declared.Delay.{Delay}
 use Rattle.node.specs.declared.Node.{Node}
 use Rattle.node.specs.declared.Event.{Event}
 use Rattle.node.specs.declared.Reply.{Reply}
-use Rattle.node.specs.Changes.{asleep, powerOn, toNormal, toStandby, withPermission, withWake, withHeard, withDelay, withStandby, nextCount}
+use Rattle.node.specs.Changes.{asleep, powerOn, toStandby, withPermission, withWake, withHeard, withDelay, withStandby, nextCount}
 use Rattle.node.specs.Range.{delayRight, standbyRight, isAwake, inRange}
 use Rattle.node.specs.Ticks.{quietTick, awakeTick, normalBy, callerTick, listenerTick, standbyTick, tickBy, tickStep}
 use Rattle.node.specs.Waking.{pulseBy, callAnew, wakeAskBy, wakeAskStep, permissionStep}
@@ -65,15 +65,10 @@ awake t n e =
     let c = countsBelow 4 (n .counts) in
     and-l w q (and-l (w && q) d (and-l (w && q && d) s (and-l (w && q && d && s) c e)))
 
--- a state is Awake unless machines sleep
-abbrev AwakeUnless : Bool → Node → Type 0
-AwakeUnless true n = Unit {0}
-AwakeUnless false n = Awake n
-
-pub in-range : (sleeps : Bool) (t : Times) (n : Node) → AwakeUnless sleeps n → Fits t n → inRange sleeps t n ≡ true
+pub in-range : (sleeps : Bool) (t : Times) (n : Node) → (sleeps ≡ false → Awake n) → Fits t n → inRange sleeps t n ≡ true
 unfolding inRange
 in-range true t n a f = rw (le-leb _ _ (f .quiet), f .delay, f .standby, f .counts)
-in-range false t n a f = rw (a, le-leb _ _ (f .quiet), f .delay, f .standby, f .counts)
+in-range false t n a f = rw (a refl, le-leb _ _ (f .quiet), f .delay, f .standby, f .counts)
 
 no-counts : countsBelow 4 (replicate 128 0) ≡ true
 unfolding countsBelow allTo
@@ -89,8 +84,8 @@ module _ (t : Times) where
   pub asleep-fits : (permitted : Bool) → Fits t (asleep permitted)
   asleep-fits permitted = record { quiet = omega arith; delay = refl; standby = refl; counts = no-counts }
 
-  pub awake-fits-new : Fits t (toNormal (asleep false))
-  awake-fits-new = record { quiet = omega arith; delay = refl; standby = refl; counts = no-counts }
+  pub started-fits : Fits t (powerOn false)
+  started-fits = record { quiet = omega arith; delay = refl; standby = refl; counts = no-counts }
 
   module _ (a : TimesFit t) where
     standby-fits : (n : Node) (caller : Bool) → Fits t n → Fits t (toStandby n caller)
@@ -220,11 +215,10 @@ act-fits p ok me n e f = go e
 -- and so does every step
 pub range-kept : (p : Plan) → planRefusal p ≡ 0 → (me : ℕ) (n : Node) (e : Event) → inRange (sleeps p) (p .times) n ≡ true
     → inRange (sleeps p) (p .times) (nodeStep p me n e .node) ≡ true
-range-kept p ok me n e r = in-range (sleeps p) (p .times) _ (stays (sleeps p) refl r) (go (fits (sleeps p) (p .times) n r))
+range-kept p ok me n e r = in-range (sleeps p) (p .times) _ stays (go (fits (sleeps p) (p .times) n r))
   where
-    stays : (s : Bool) → sleeps p ≡ s → inRange s (p .times) n ≡ true → AwakeUnless s (nodeStep p me n e .node)
-    stays true q r = tt
-    stays false q r = step-awake p me n e q (awake (p .times) n r)
+    stays : sleeps p ≡ false → Awake (nodeStep p me n e .node)
+    stays q = step-awake p me n e q (awake (p .times) n (rw q at r))
 
     go : Fits (p .times) n → Fits (p .times) (nodeStep p me n e .node)
     go f =
@@ -237,5 +231,5 @@ range-kept p ok me n e r = in-range (sleeps p) (p .times) _ (stays (sleeps p) re
         (λ q. f)
 
 pub power-on-fits : (sleeps : Bool) (t : Times) → inRange sleeps t (powerOn sleeps) ≡ true
-power-on-fits true t = in-range true t (powerOn true) tt (asleep-fits t false)
-power-on-fits false t = in-range false t (powerOn false) refl (awake-fits-new t)
+power-on-fits true t = in-range true t (powerOn true) (λ e. no-way (sym e)) (asleep-fits t false)
+power-on-fits false t = in-range false t (powerOn false) (λ e. refl) (started-fits t)

@@ -16,7 +16,7 @@ use Rattle.node.specs.Ticks.{tickStep}
 use Rattle.node.specs.Waking.{pulseStep, wakeAskStep, permissionStep}
 use Rattle.node.specs.Sending.{sleepMessageStep, requestStep, sendAskStep}
 use Rattle.node.proofs.Cases.{tick-any, pulse-any, wake-ask-any, permission-any, sleep-message-any, request-keeps, send-ask-keeps}
-use Rattle.node.proofs.InRange.{Fits, asleep-fits, awake-fits-new, tick-fits, pulse-fits, wake-ask-fits, permission-fits, sleep-message-fits, request-fits, send-ask-fits}
+use Rattle.node.proofs.InRange.{Fits, asleep-fits, started-fits, tick-fits, pulse-fits, wake-ask-fits, permission-fits, sleep-message-fits, request-fits, send-ask-fits}
 use Rattle.node.proofs.ErrorShows.{ErrorShows, tick-shows, pulse-shows, wake-ask-shows, permission-shows}
 use Rattle.node.proofs.WithClock.{ClockOn, on-none, on-tick, on-pulse, on-wake-ask, on-permission, on-long}
 use Rattle.node.proofs.WithoutClock.{ClockOff, off-none, off-tick, off-pulse, off-permission, off-long}
@@ -33,7 +33,7 @@ pub record InRun (t : Times) (permitted : Bool) (on off : ℕ) (n : Node) : Type
 module _ (t : Times) where
   pub run-power-on : (sleeps : Bool) → InRun t false 0 0 (powerOn sleeps)
   run-power-on true = record { permission = refl; fits = asleep-fits t false; shows = λ e. no-way e; lit = on-none t (powerOn true); dark = off-none t (powerOn true) }
-  run-power-on false = record { permission = refl; fits = awake-fits-new t; shows = λ e. no-way e; lit = on-none t (powerOn false); dark = off-none t (powerOn false) }
+  run-power-on false = record { permission = refl; fits = started-fits t; shows = λ e. no-way e; lit = on-none t (powerOn false); dark = off-none t (powerOn false) }
 
   module _ (permitted : Bool) (on off : ℕ) (n : Node) (s : InRun t permitted on off n) where
     -- 0 ticks say nothing: another's ask to wake

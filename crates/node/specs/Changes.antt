@@ -5,18 +5,19 @@ use lib.Dec.{ltb}
 use lib.ListN.{getD, set, replicate}
 use Rattle.folds.specs.Fold.{pick}
 use Rattle.machine.specs.declared.State.{State}
+use Rattle.machine.specs.State.{startState}
 use Rattle.plan.specs.Limits.{reqids, seqCounts}
 use Rattle.node.specs.declared.Delay.{Delay}
 use Rattle.node.specs.declared.Command.{Command}
 use Rattle.node.specs.declared.Node.{Node}
 use Rattle.node.specs.declared.Reply.{Reply}
 
--- asleep, with all clear but a permission
-abbrev pub asleep : Bool → Node
-asleep permitted =
+-- "Power-on: Sleep (test 1.3), permission no, the rest clear", or Normal where machines never sleep (W-206)
+abbrev pub powerOn : Bool → Node
+powerOn sleeps =
     record {
-      state = State.Sleep;
-      permission = permitted;
+      state = startState sleeps;
+      permission = false;
       error = false;
       wake = false;
       heard = false;
@@ -26,10 +27,6 @@ asleep permitted =
       standby = 0;
       counts = replicate reqids 0;
     }
-
--- "Entering Sleep clears all but permission"
-abbrev pub toSleep : Node → Node
-toSleep n = asleep (n .permission)
 
 -- "Entering Normal clears error, heard, caller, sleep delay and every count"
 abbrev pub toNormal : Node → Node
@@ -46,10 +43,6 @@ toNormal n =
       standby = 0;
       counts = replicate reqids 0;
     }
-
--- "Power-on: Sleep (test 1.3), permission no, the rest clear"; W-206: machines that never sleep "start in Normal"
-abbrev pub powerOn : Bool → Node
-powerOn sleeps = pick sleeps (asleep false) (toNormal (asleep false))
 
 -- into Standby, as the caller or not, count 0
 abbrev pub toStandby : Node → Bool → Node
@@ -81,6 +74,14 @@ withPermission permitted n =
       standby = n .standby;
       counts = n .counts;
     }
+
+-- asleep, with all clear but a permission
+abbrev pub asleep : Bool → Node
+asleep permitted = withPermission permitted (powerOn true)
+
+-- "Entering Sleep clears all but permission"
+abbrev pub toSleep : Node → Node
+toSleep n = asleep (n .permission)
 
 abbrev pub withWake : Node → Node
 withWake n =

@@ -1,8 +1,9 @@
 // The node machine.
 ghost use mathlib.Core.Path.{_≡_};
-ghost use Rattle.node.specs.Changes.{asleep, powerOn, toSleep, toNormal, toStandby, silent, calls, refuse};
+ghost use Rattle.node.specs.Changes.{powerOn, toSleep, toNormal, toStandby, silent, calls, refuse};
 ghost use Rattle.node.specs.Step.{eventRight, rowAsked, actWith, stepWith, stepUnder, nodeStep};
 use machine::State;
+use machine::start_state;
 use plan::Lookup;
 use plan::Plan;
 use plan::Row;
@@ -137,12 +138,12 @@ impl Node {
     // Sequence counts lie below this and follow each other modulo it.
     pub const COUNTS: u8 = Row::COUNTS;
 
-    fn asleep(permission: bool) -> Node
-        ensures { λ r. ⌜ r ≡ asleep permission ⌝ }
+    pub fn power_on(sleeps: bool) -> Node
+        ensures { λ r. ⌜ r ≡ powerOn sleeps ⌝ }
     {
         Node {
-            state: State::Sleep,
-            permission,
+            state: start_state(sleeps),
+            permission: false,
             error: false,
             wake: false,
             heard: false,
@@ -154,18 +155,13 @@ impl Node {
         }
     }
 
-    // A machine that never sleeps starts in Normal.
-    pub fn power_on(sleeps: bool) -> Node
-        ensures { λ r. ⌜ r ≡ powerOn sleeps ⌝ }
-    {
-        let node = Node::asleep(false);
-        if sleeps { node } else { node.to_normal() }
-    }
-
     fn to_sleep(self) -> Node
         ensures { λ r. ⌜ r ≡ toSleep self ⌝ }
     {
-        Node::asleep(self.permission)
+        Node {
+            permission: self.permission,
+            ..Node::power_on(true)
+        }
     }
 
     fn to_normal(self) -> Node

@@ -1,13 +1,14 @@
 -- The first bytes of a node's state, and all of them put into a buffer.
 use Prim.Native.Nat.{ℕ, _+_, _/_, _%_}
 use mathlib.Core.Path.{_≡_, refl, ap, sym, _∙_}
+use mathlib.Core.Bool.{Bool, true, false}
 use mathlib.Core.List.{List, [], _∷_, _++_}
 use lib.ListN.{length, getD, set, replicate}
 use lib.Seq.{sets}
 use native.Mathlib.Omega.{arith}
 use Rattle.folds.proofs.Stores.{sets-append}
 use Rattle.blocks.specs.Bytes.{highByte, lowByte, fourBytes}
-use Rattle.machine.specs.declared.State.{State}
+use Rattle.machine.specs.State.{startState}
 use Rattle.machine.specs.Bytes.{stateByte, flagByte}
 use Rattle.node.specs.declared.Delay.{Delay}
 use Rattle.node.specs.declared.Node.{Node}
@@ -39,6 +40,7 @@ node-put n buffer head x y h e f =
     f ∙ rw (e, h, ← z) (sets-append (nodeHead n) (n .counts) buffer 0)
 
 -- power-on: the state's byte, and zeros
-pub power-on-put : (buffer x : List ℕ) (state : ℕ) → state ≡ stateByte State.Sleep → x ≡ sets buffer 0 (set (replicate 143 0) 0 state) → x ≡ sets buffer 0 (nodeBytes powerOn)
+pub power-on-put : (sleeps : Bool) (buffer x : List ℕ) (state : ℕ) → state ≡ stateByte (startState sleeps) → x ≡ sets buffer 0 (set (replicate 143 0) 0 state) → x ≡ sets buffer 0 (nodeBytes (powerOn sleeps))
 unfolding nodeBytes
-power-on-put buffer x state h e = e ∙ rw h
+power-on-put true buffer x state h e = e ∙ rw h
+power-on-put false buffer x state h e = e ∙ rw h

@@ -42,7 +42,7 @@ nodeFrom s =
 
 -- a node out of range under every plan: "outside Standby .. count 0"
 abbrev pub noNode : Node
-noNode = withStandby 1 (powerOn .error) powerOn
+noNode = withStandby 1 false (powerOn true)
 
 -- the node of bytes; of bytes that are no state one that each step refuses as 11
 abbrev pub nodeOf : List ℕ → Node

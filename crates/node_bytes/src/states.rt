@@ -19,7 +19,7 @@ use blocks::long_number;
 use blocks::number_at;
 use blocks::put;
 use blocks::table_at;
-use machine::State;
+use machine::start_state;
 use machine::flag_byte;
 use machine::state_byte;
 use machine::state_of;
@@ -83,11 +83,11 @@ pub fn put_node(buffer: &mut [u8], node: Node)
 }
 
 // Puts the state at power-on at the front of a buffer: constants, which the compiler stores without reckoning them from a node.
-pub fn put_power_on(buffer: &mut [u8])
-    ensures { λ _. ⌜ now (buffer .exit) ≡ sets (now (buffer .entry)) 0 (nodeBytes powerOn) ⌝ }
+pub fn put_power_on(buffer: &mut [u8], sleeps: bool)
+    ensures { λ _. ⌜ now (buffer .exit) ≡ sets (now (buffer .entry)) 0 (nodeBytes (powerOn sleeps)) ⌝ }
 {
     let mut bytes = [0; LENGTH];
-    bytes[STATE_AT] = state_byte(State::Sleep);
+    bytes[STATE_AT] = state_byte(start_state(sleeps));
     put(buffer, 0, &bytes[..]);
 }
 
@@ -134,7 +134,7 @@ fn no_node() -> Node
 {
     Node {
         standby: 1,
-        ..Node::power_on()
+        ..Node::power_on(true)
     }
 }
 

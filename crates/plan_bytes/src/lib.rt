@@ -3,6 +3,7 @@
 ghost use mathlib.Core.Path.{_≡_};
 ghost use Rattle.plan.specs.Answers.{isPolled};
 ghost use Rattle.plan.specs.Find.{findRow, risingRow};
+ghost use Rattle.plan.specs.Profile.{sleeps};
 ghost use Rattle.plan.specs.Rules.{planRefusal};
 ghost use Rattle.plan_bytes.specs.Record.{recordOf};
 use plan::Lookup;
@@ -62,6 +63,13 @@ pub fn profile_of(bytes: &[u8]) -> u8
     } else {
         0
     }
+}
+
+// Whether the machines of the plan sleep.
+pub fn sleeps(bytes: &[u8]) -> bool
+    ensures { λ r. ⌜ r ≡ sleeps (recordOf (now (bytes .entry))) ⌝ }
+{
+    profile_of(bytes) == 0
 }
 
 pub fn row_count(bytes: &[u8]) -> u16

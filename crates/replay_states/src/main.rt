@@ -75,7 +75,7 @@ fn run(plan: Plan) {
     let input: &mut [u8] = &mut space;
     let mut room = io::buffer();
     let frame: &mut [u8] = &mut room;
-    let mut world = World::power_on();
+    let mut world = World::power_on(plan.sleeps());
     let mut turns = u64::MAX;
     while 0 < turns {
         let turn = step_on(plan, world, input, frame);

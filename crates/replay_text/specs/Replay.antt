@@ -7,6 +7,7 @@ use Rattle.plan.specs.declared.Plan.{Plan}
 use Rattle.bus.specs.declared.Moved.{Moved}
 use Rattle.bus.specs.declared.World.{World}
 use Rattle.bus.specs.Moves.{worldAct}
+use Rattle.plan.specs.Profile.{sleeps}
 use Rattle.bus.specs.World.{powerOn}
 use Rattle.text.specs.Text.{Shown}
 use Rattle.drill_text.specs.Lines.{moveLine, badLine}
@@ -34,7 +35,7 @@ next count = (count + 1) % 2 ^ 64
 
 -- "from power-on", nothing read
 abbrev pub started : Plan → Replay
-started plan = record { plan = plan; world = powerOn; count = 0 }
+started plan = record { plan = plan; world = powerOn (sleeps plan); count = 0 }
 
 -- a record more
 abbrev pub after : Replay → List ℕ → Replay

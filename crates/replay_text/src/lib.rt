@@ -32,7 +32,7 @@ impl Replay {
     {
         Replay {
             plan,
-            world: World::power_on(),
+            world: World::power_on(plan.sleeps()),
             count: 0,
         }
     }

@@ -8,6 +8,7 @@ use borrow.Author.Tests.{eq-eqb}
 use Rattle.folds.specs.Fold.{pick}
 use Rattle.folds.proofs.AllAny.{and-l, and-r}
 use Rattle.plan.specs.declared.Plan.{Plan}
+use Rattle.plan.specs.Profile.{sleeps}
 use Rattle.plan.specs.Rules.{planRefusal}
 use Rattle.bus.specs.declared.Move.{Move}
 use Rattle.bus.specs.declared.Moved.{Moved}
@@ -27,7 +28,7 @@ module _ (p : Plan) (ok : planRefusal p ≡ 0) where
   step-acts moves s e = ap (λ (b : Bool). judged (pick b (worldAct p (run p moves .world) (moveOf s)) (stays (run p moves .world) 15))) e ∙ run-judged p ok moves (moveOf s)
     where
       judged : Moved → Moved
-      judged o = pick (eqb (planRefusal p) 0) (pick (worldInRange (p .nodecount) (p .times) (run p moves .world)) o (stays (run p moves .world) 11)) (stays (run p moves .world) (planRefusal p))
+      judged o = pick (eqb (planRefusal p) 0) (pick (worldInRange (sleeps p) (p .nodecount) (p .times) (run p moves .world)) o (stays (run p moves .world) 11)) (stays (run p moves .world) (planRefusal p))
 
   steps-after : (moves : List Move) (l : List (List ℕ)) → allMoves l ≡ true → runFrom p (run p moves) (map moveOf l) ≡ stepsFrom p (run p moves) l
   unfolding allMoves

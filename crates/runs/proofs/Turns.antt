@@ -7,6 +7,7 @@ use native.Mathlib.Numerals.{add-one}
 use Rattle.folds.specs.Fold.{pick, allTo, tab}
 use Rattle.folds.proofs.AllAny.{all-false}
 use Rattle.plan.specs.declared.Plan.{Plan}
+use Rattle.plan.specs.Profile.{sleeps}
 use Rattle.bus.specs.declared.Move.{Move}
 use Rattle.bus.specs.declared.Moved.{Moved}
 use Rattle.bus.specs.declared.World.{World}
@@ -23,7 +24,7 @@ pub run-last : (p : Plan) (r : Run) (moves : List Move) (m : Move) → runFrom p
 run-last p r [] m = refl
 run-last p r (x ∷ moves) m = run-last p (then r (worldAct p (r .world) x)) moves m
 
-pub run-none : (p : Plan) (f : ℕ → Move) (world : World) → world ≡ powerOn → world ≡ run p (tab 0 f) .world
+pub run-none : (p : Plan) (f : ℕ → Move) (world : World) → world ≡ powerOn (sleeps p) → world ≡ run p (tab 0 f) .world
 unfolding tab
 run-none p f world e = e
 
@@ -36,15 +37,15 @@ run-more p f k world m r e q h =
     ∙ ap (λ (j : ℕ). run p (tab j f) .world) (sym (add-one k))
 
 module _ (p : Plan) (s : List ℕ) (k : ℕ) where
-  pub ran-stopped : {r : Ran} → k < recordCount s → isMove (recordAt s k) ≡ false → r ≡ ranTo 15 powerOn → r ≡ ranOver p s
+  pub ran-stopped : {r : Ran} → k < recordCount s → isMove (recordAt s k) ≡ false → r ≡ ranTo 15 (powerOn (sleeps p)) → r ≡ ranOver p s
   unfolding records
   ran-stopped l e h =
       let wrong : listRight s ≡ false = moves-tab (recordCount s) (recordAt s) ∙ all-false (λ i. isMove (recordAt s i)) (recordCount s) k l e in
-      h ∙ ap (λ (b : Bool). pick b (ranTo 0 (run p (movesOf s) .world)) (ranTo 15 powerOn)) (sym wrong)
+      h ∙ ap (λ (b : Bool). pick b (ranTo 0 (run p (movesOf s) .world)) (ranTo 15 (powerOn (sleeps p)))) (sym wrong)
 
   pub ran-all : {w : World} → k ≡ recordCount s → allTo (λ i. isMove (recordAt s i)) k ≡ true → w ≡ run p (tab k (λ i. moveOf (recordAt s i))) .world → ranTo 0 w ≡ ranOver p s
   unfolding records
   ran-all n e h =
       let right : listRight s ≡ true = moves-tab (recordCount s) (recordAt s) ∙ ap (allTo (λ i. isMove (recordAt s i))) (sym n) ∙ e in
       let moves : tab k (λ i. moveOf (recordAt s i)) ≡ movesOf s = ap (λ (j : ℕ). tab j (λ i. moveOf (recordAt s i))) n ∙ sym (map-tab moveOf (recordCount s) (recordAt s)) in
-      ap (ranTo 0) (h ∙ ap (λ (l : List Move). run p l .world) moves) ∙ ap (λ (b : Bool). pick b (ranTo 0 (run p (movesOf s) .world)) (ranTo 15 powerOn)) (sym right)
+      ap (ranTo 0) (h ∙ ap (λ (l : List Move). run p l .world) moves) ∙ ap (λ (b : Bool). pick b (ranTo 0 (run p (movesOf s) .world)) (ranTo 15 (powerOn (sleeps p)))) (sym right)

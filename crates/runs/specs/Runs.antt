@@ -4,6 +4,7 @@ use mathlib.Core.List.{List, [], _∷_}
 use lib.Dec.{eqb}
 use Rattle.folds.specs.Fold.{pick}
 use Rattle.plan.specs.declared.Plan.{Plan}
+use Rattle.plan.specs.Profile.{sleeps}
 use Rattle.plan.specs.Rules.{planRefusal}
 use Rattle.bus.specs.declared.Moved.{Moved}
 use Rattle.bus.specs.declared.World.{World}
@@ -19,7 +20,7 @@ use Rattle.runs.specs.Records.{listRight, movesOf}
 abbrev pub stepOf : Plan → World → List ℕ → Moved
 stepOf p w s =
     pick (eqb (planRefusal p) 0)
-    (pick (worldInRange (p .nodecount) (p .times) w)
+    (pick (worldInRange (sleeps p) (p .nodecount) (p .times) w)
     (pick (isMove s) (worldAct p w (moveOf s))
     (stays w 15))
     (stays w 11))
@@ -40,8 +41,8 @@ ranTo refusal world = record { refusal = refusal; world = world }
 
 -- under an accepted plan: 15 for bytes that are no list of moves, with the machines at power-on
 abbrev pub ranOver : Plan → List ℕ → Ran
-ranOver p s = pick (listRight s) (ranTo 0 (run p (movesOf s) .world)) (ranTo 15 powerOn)
+ranOver p s = pick (listRight s) (ranTo 0 (run p (movesOf s) .world)) (ranTo 15 (powerOn (sleeps p)))
 
 -- "plan 4 to 8 first", and 3 "before 4"
 abbrev pub runOf : Plan → List ℕ → Ran
-runOf p s = pick (eqb (planRefusal p) 0) (ranOver p s) (ranTo (planRefusal p) powerOn)
+runOf p s = pick (eqb (planRefusal p) 0) (ranOver p s) (ranTo (planRefusal p) (powerOn true))

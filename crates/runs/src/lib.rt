@@ -48,7 +48,7 @@ pub fn step(plan: Plan, world: World, bytes: &[u8]) -> Moved
     let refusal = plan_refusal(plan);
     if refusal == 0 {
         let times = plan.times;
-        if world.in_range(plan.nodecount, times) {
+        if world.in_range(plan.sleeps(), plan.nodecount, times) {
             if is_move(bytes) {
                 world.act(plan, move_of(bytes))
             } else {
@@ -62,12 +62,12 @@ pub fn step(plan: Plan, world: World, bytes: &[u8]) -> Moved
     }
 }
 
-fn refused(refusal: u8) -> Ran
-    ensures { λ r. ⌜ r ≡ ranTo refusal powerOn ⌝ }
+fn refused(refusal: u8, sleeps: bool) -> Ran
+    ensures { λ r. ⌜ r ≡ ranTo refusal (powerOn sleeps) ⌝ }
 {
     Ran {
         refusal,
-        world: World::power_on(),
+        world: World::power_on(sleeps),
     }
 }
 
@@ -76,12 +76,12 @@ fn run_all(plan: Plan, moves: &[u8]) -> Ran
     ensures { λ r. ⌜ r ≡ ranOver plan (now (moves .entry)) ⌝ }
 {
     let count = record_count(moves);
-    let mut world = World::power_on();
+    let mut world = World::power_on(plan.sleeps());
     let mut k: usize = 0;
     while k < count {
         let bytes = record_at(moves, k);
         if !is_move(bytes) {
-            return refused(15);
+            return refused(15, plan.sleeps());
         }
         let moved = world.act(plan, move_of(bytes));
         world = moved.world;
@@ -98,6 +98,6 @@ pub fn run(plan: Plan, moves: &[u8]) -> Ran
     if refusal == 0 {
         run_all(plan, moves)
     } else {
-        refused(refusal)
+        refused(refusal, true)
     }
 }

@@ -16,13 +16,14 @@ causeWord Cause.Aged = ascii "aged"
 causeWord Cause.Damaged = ascii "damaged"
 causeWord Cause.Woken = ascii "wake"
 
--- "`none`, `sleep`, `owed`, `own`, .. or the node and" its cause
+-- "`none`, `sleep`, `owed`, `own`, .. or the node and" its cause; W-206: "printed `profile`"
 unfoldable pub reasonWord : Reason → List ℕ
 reasonWord Reason.Nothing = ascii "none"
 reasonWord Reason.UnderWay = ascii "sleep"
 reasonWord Reason.Owed = ascii "owed"
 reasonWord Reason.Own = ascii "own"
 reasonWord (Reason.Node node cause) = decimal node ++ ascii " " ++ causeWord cause
+reasonWord Reason.Profile = ascii "profile"
 
 -- or "the refusal's number"
 unfoldable pub whyWord : Explained → List ℕ

@@ -38,6 +38,7 @@ fn append_reason(buffer: &mut [u8], at: usize, reason: Reason) -> usize
         Reason::Owed => append(buffer, at, b"owed"),
         Reason::Own => append(buffer, at, b"own"),
         Reason::Node { node, cause } => append_node(buffer, at, node, cause),
+        Reason::Profile => append(buffer, at, b"profile"),
     }
 }
 

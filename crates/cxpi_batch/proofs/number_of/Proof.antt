@@ -15,6 +15,9 @@ returns c = plan-stands _ _ _ (c .before .refusal-of .ensures) (c .if1 .taken)
 times-of-requires : tie.Need-times-of-requires
 times-of-requires c κs = search needs
 
+sleeps-requires : tie.Need-sleeps-requires
+sleeps-requires c κs = search needs
+
 master-of-requires : tie.Need-master-of-requires
 master-of-requires c κs = search needs
 
@@ -26,21 +29,23 @@ in-range-requires c κs = search needs
 
 returns-2 : tie.Need-returns-2
 returns-2 c =
-    none-stands _ _ (sym (c .before .before .before .before .before .before .refusal-of .ensures) ∙ c .before .before .before .before .before .if1 .left)
+    none-stands _ _ (sym (c .before .before .before .before .before .before .before .refusal-of .ensures) ∙ c .before .before .before .before .before .before .if1 .left)
     (rw (
       ← c .before .before .node-count .ensures,
-      ← c .before .before .before .before .times-of .ensures,
+      ← c .before .before .before .before .sleeps .ensures,
+      ← c .before .before .before .before .before .times-of .ensures,
       ← c .before .before .before .master-of .ensures,
       ← c .before .in-range .ensures,
     ) (c .if2 .taken))
-    (λ o. omega (arith, c .before .before .before .before .before .before .before .shared-slice-known2 .given o))
+    (λ o. omega (arith, c .before .before .before .before .before .before .before .before .shared-slice-known2 .given o))
 
 returns-3 : tie.Need-returns-3
 returns-3 c =
-    state-stands _ _ (sym (c .before .before .before .before .before .before .refusal-of .ensures) ∙ c .before .before .before .before .before .if1 .left)
+    state-stands _ _ (sym (c .before .before .before .before .before .before .before .refusal-of .ensures) ∙ c .before .before .before .before .before .before .if1 .left)
     (rw (
       ← c .before .before .node-count .ensures,
-      ← c .before .before .before .before .times-of .ensures,
+      ← c .before .before .before .before .sleeps .ensures,
+      ← c .before .before .before .before .before .times-of .ensures,
       ← c .before .before .before .master-of .ensures,
       ← c .before .in-range .ensures,
     ) (c .if2 .left))
@@ -52,6 +57,7 @@ number-of-spec =
     refusal-of-requires
     returns
     times-of-requires
+    sleeps-requires
     master-of-requires
     node-count-requires
     in-range-requires

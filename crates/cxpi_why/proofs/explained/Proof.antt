@@ -22,6 +22,9 @@ returns-2 c = rw (c .refused2 .ensures, ← c .before .before .before .refusal-o
 times-of-requires : tie.Need-times-of-requires
 times-of-requires c κs = search needs
 
+sleeps-requires : tie.Need-sleeps-requires
+sleeps-requires c κs = search needs
+
 node-count-requires : tie.Need-node-count-requires
 node-count-requires c κs = search needs
 
@@ -37,10 +40,11 @@ returns-3 c =
       c .explain-with .ensures,
       c .before .master-of .ensures,
       c .before .before .node-count .ensures,
-      c .before .before .before .times-of .ensures,
-      ← c .before .before .before .before .before .before .refusal-of .ensures,
-      eq-eqb _ _ (c .before .before .before .before .before .if1 .left),
-      le-ltb _ _ (c .before .before .before .before .if2 .left),
+      c .before .before .before .sleeps .ensures,
+      c .before .before .before .before .times-of .ensures,
+      ← c .before .before .before .before .before .before .before .refusal-of .ensures,
+      eq-eqb _ _ (c .before .before .before .before .before .before .if1 .left),
+      le-ltb _ _ (c .before .before .before .before .before .if2 .left),
     )
 
 pub explained-spec : {M : Type 1} → statement M
@@ -53,6 +57,7 @@ explained-spec =
     refused-requires-2
     returns-2
     times-of-requires
+    sleeps-requires
     node-count-requires
     master-of-requires
     explain-with-requires

@@ -6,6 +6,9 @@ use Rattle.master_reason.proofs.explain.Tie as tie
 plan-refusal-requires : tie.Need-plan-refusal-requires
 plan-refusal-requires c κs = search needs
 
+sleeps-requires : tie.Need-sleeps-requires
+sleeps-requires c κs = search needs
+
 explain-with-requires : tie.Need-explain-with-requires
 explain-with-requires c κs = search needs
 
@@ -16,8 +19,9 @@ returns : tie.Need-returns
 returns c =
     rw (
       c .explain-with .ensures,
-      ← c .before .before .before .plan-refusal .ensures,
-      eq-eqb _ _ (c .before .before .if1 .taken),
+      c .before .sleeps .ensures,
+      ← c .before .before .before .before .plan-refusal .ensures,
+      eq-eqb _ _ (c .before .before .before .if1 .taken),
     )
 
 returns-2 : tie.Need-returns-2
@@ -31,4 +35,4 @@ returns-2 c =
 pub explain-spec : {M : Type 1} → statement M
 explain-spec =
     tie.close
-    (tie.spec plan-refusal-requires explain-with-requires refused-requires returns returns-2)
+    (tie.spec plan-refusal-requires sleeps-requires explain-with-requires refused-requires returns returns-2)

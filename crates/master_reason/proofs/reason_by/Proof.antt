@@ -20,9 +20,10 @@ enum-told-4 c = search needs
 returns : tie.Need-returns
 returns c =
     rw (
-      c .node-reason .ensures,
-      c .before .before .enum-told .given .1,
-      c .before .if1 .taken,
+        c .node-reason .ensures,
+        c .before .before .before .before .if1 .taken,
+        c .before .before .enum-told .given .1,
+        c .before .if2 .taken,
     )
 
 returns-2 : tie.Need-returns-2
@@ -37,6 +38,9 @@ returns-4 c = search needs
 returns-5 : tie.Need-returns-5
 returns-5 c = search needs
 
+returns-6 : tie.Need-returns-6
+returns-6 c = search needs
+
 pub reason-by-spec : {M : Type 1} → statement M
 reason-by-spec =
     tie.close
@@ -50,4 +54,5 @@ reason-by-spec =
     returns-2
     returns-3
     returns-4
-    returns-5)
+    returns-5
+    returns-6)

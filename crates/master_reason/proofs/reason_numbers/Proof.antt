@@ -20,6 +20,9 @@ enum-known-reason c = search needs
 cause-number-requires : tie.Need-cause-number-requires
 cause-number-requires c κs = search needs
 
+enum-told-5 : tie.Need-enum-told-5
+enum-told-5 c = search needs
+
 returns : tie.Need-returns
 returns c = search needs
 
@@ -35,9 +38,12 @@ returns-4 c = search needs
 returns-5 : tie.Need-returns-5
 returns-5 c =
     rw (
-      c .cause-number .ensures,
-      c .before .before .reason .given .1,
+        c .cause-number .ensures,
+        c .before .before .reason .given .1,
     )
+
+returns-6 : tie.Need-returns-6
+returns-6 c = search needs
 
 pub reason-numbers-spec : {M : Type 1} → statement M
 reason-numbers-spec =
@@ -49,8 +55,10 @@ reason-numbers-spec =
     enum-told-4
     enum-known-reason
     cause-number-requires
+    enum-told-5
     returns
     returns-2
     returns-3
     returns-4
-    returns-5)
+    returns-5
+    returns-6)

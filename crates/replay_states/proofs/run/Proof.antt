@@ -20,6 +20,9 @@ buffer-requires c κs = search needs
 slice-aggregate-frame : tie.Need-slice-aggregate-frame Inv-loop μ-loop
 slice-aggregate-frame c = search needs
 
+sleeps-requires : tie.Need-sleeps-requires Inv-loop μ-loop
+sleeps-requires c κs = search needs
+
 power-on-requires : tie.Need-power-on-requires Inv-loop μ-loop
 power-on-requires c κs = search needs
 
@@ -53,6 +56,7 @@ run-spec =
     slice-aggregate-input
     buffer-requires
     slice-aggregate-frame
+    sleeps-requires
     power-on-requires
     loop-holds
     step-on-requires

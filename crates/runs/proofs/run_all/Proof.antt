@@ -1,14 +1,16 @@
 -- The records so far are moves, and the world is that of these moves. Assumes nothing.
 use Prim.Native.Nat.{ℕ, _-_, _≤_}
 use mathlib.Core.Path.{_≡_, ap, sym, _∙_}
-use mathlib.Core.Bool.{true}
+use mathlib.Core.Bool.{Bool, true}
 use native.Mathlib.Omega.{arith}
 use borrow.Author.Tests.{not-true, not-false}
 use Rattle.folds.specs.Fold.{allTo, tab}
 use Rattle.folds.proofs.AllAny.{all-none, all-more}
+use Rattle.bus.specs.World.{powerOn}
 use Rattle.history.specs.Run.{run}
 use Rattle.runs.specs.Encoding.{moveOf, isMove}
 use Rattle.runs.specs.Records.{recordAt, recordCount}
+use Rattle.runs.specs.Runs.{ranTo}
 use Rattle.runs.proofs.Turns.{run-none, run-more, ran-stopped, ran-all}
 use borrow.Author.Needs.{needs}
 use Rattle.runs.proofs.run_all.Statement.{statement}
@@ -24,11 +26,14 @@ abbrev μ-loop : tie.MeasureT-loop
 record-count-requires : tie.Need-record-count-requires Inv-loop μ-loop
 record-count-requires c κs = search needs
 
+sleeps-requires : tie.Need-sleeps-requires Inv-loop μ-loop
+sleeps-requires c κs = search needs
+
 power-on-requires : tie.Need-power-on-requires Inv-loop μ-loop
 power-on-requires c κs = search needs
 
 loop-holds : tie.Need-loop-holds Inv-loop μ-loop
-loop-holds c = (search needs, c .before .record-count .ensures, all-none _, run-none _ _ _ (c .power-on .ensures))
+loop-holds c = (search needs, c .before .before .record-count .ensures, all-none _, run-none _ _ _ (c .power-on .ensures ∙ ap powerOn (c .before .sleeps .ensures)))
 
 record-at-requires : tie.Need-record-at-requires Inv-loop μ-loop
 record-at-requires c κs = search needs
@@ -36,11 +41,18 @@ record-at-requires c κs = search needs
 is-move-requires : tie.Need-is-move-requires Inv-loop μ-loop
 is-move-requires c κs = search needs
 
+sleeps-requires-2 : tie.Need-sleeps-requires-2 Inv-loop μ-loop
+sleeps-requires-2 c κs = search needs
+
 refused-requires : tie.Need-refused-requires Inv-loop μ-loop
 refused-requires c κs = search needs
 
 returns : tie.Need-returns Inv-loop μ-loop
-returns c = ran-stopped _ _ (c .before .before .before .before .before .loop .k) (omega (arith, c .before .before .before .before .loop-test .taken, c .before .before .before .before .before .loop .inv .1)) (ap isMove (sym (c .before .before .before .record-at .ensures)) ∙ sym (c .before .before .is-move .ensures) ∙ not-true _ (c .before .if1 .taken)) (c .refused .ensures)
+returns c =
+    let at = c .before .before .before .before .before .before .loop in
+    ran-stopped _ _ (at .k) (omega (arith, c .before .before .before .before .before .loop-test .taken, at .inv .1))
+    (ap isMove (sym (c .before .before .before .before .record-at .ensures)) ∙ sym (c .before .before .before .is-move .ensures) ∙ not-true _ (c .before .before .if1 .taken))
+    (c .refused .ensures ∙ ap (λ (s : Bool). ranTo 15 (powerOn s)) (c .before .sleeps2 .ensures))
 
 move-of-requires : tie.Need-move-of-requires Inv-loop μ-loop
 move-of-requires c κs = search needs
@@ -75,10 +87,12 @@ run-all-spec =
     Inv-loop
     μ-loop
     record-count-requires
+    sleeps-requires
     power-on-requires
     loop-holds
     record-at-requires
     is-move-requires
+    sleeps-requires-2
     refused-requires
     returns
     move-of-requires

@@ -6,6 +6,9 @@ use Rattle.runs.proofs.step.Tie as tie
 plan-refusal-requires : tie.Need-plan-refusal-requires
 plan-refusal-requires c κs = search needs
 
+sleeps-requires : tie.Need-sleeps-requires
+sleeps-requires c κs = search needs
+
 in-range-requires : tie.Need-in-range-requires
 in-range-requires c κs = search needs
 
@@ -33,9 +36,10 @@ returns c =
       c .act .ensures,
       c .before .move-of .ensures,
       ← c .before .before .before .is-move .ensures,
+      ← c .before .before .before .before .before .before .sleeps .ensures,
       ← c .before .before .before .before .before .in-range .ensures,
-      ← c .before .before .before .before .before .before .before .before .plan-refusal .ensures,
-      eq-eqb _ _ (c .before .before .before .before .before .before .before .if1 .taken),
+      ← c .before .before .before .before .before .before .before .before .before .plan-refusal .ensures,
+      eq-eqb _ _ (c .before .before .before .before .before .before .before .before .if1 .taken),
       c .before .before .before .before .if2 .taken,
       c .before .before .if3 .taken,
     )
@@ -45,9 +49,10 @@ returns-2 c =
     rw (
       c .stays .ensures,
       ← c .before .before .is-move .ensures,
+      ← c .before .before .before .before .before .sleeps .ensures,
       ← c .before .before .before .before .in-range .ensures,
-      ← c .before .before .before .before .before .before .before .plan-refusal .ensures,
-      eq-eqb _ _ (c .before .before .before .before .before .before .if1 .taken),
+      ← c .before .before .before .before .before .before .before .before .plan-refusal .ensures,
+      eq-eqb _ _ (c .before .before .before .before .before .before .before .if1 .taken),
       c .before .before .before .if2 .taken,
       c .before .if3 .left,
     )
@@ -56,9 +61,10 @@ returns-3 : tie.Need-returns-3
 returns-3 c =
     rw (
       c .stays2 .ensures,
+      ← c .before .before .before .sleeps .ensures,
       ← c .before .before .in-range .ensures,
-      ← c .before .before .before .before .before .plan-refusal .ensures,
-      eq-eqb _ _ (c .before .before .before .before .if1 .taken),
+      ← c .before .before .before .before .before .before .plan-refusal .ensures,
+      eq-eqb _ _ (c .before .before .before .before .before .if1 .taken),
       c .before .if2 .left,
     )
 
@@ -75,6 +81,7 @@ step-spec =
     tie.close
     (tie.spec
     plan-refusal-requires
+    sleeps-requires
     in-range-requires
     is-move-requires
     move-of-requires

@@ -46,6 +46,15 @@ enum-known-reason c = search needs
 append-node-requires : tie.Need-append-node-requires
 append-node-requires c κs = search needs
 
+enum-told-5 : tie.Need-enum-told-5
+enum-told-5 c = search needs
+
+slice-aggregate-append-5 : tie.Need-slice-aggregate-append-5
+slice-aggregate-append-5 c = search needs
+
+append-requires-5 : tie.Need-append-requires-5
+append-requires-5 c κs = search needs
+
 same-length : tie.Need-same-length
 same-length c = search needs
 
@@ -81,6 +90,13 @@ returns-5 : tie.Need-returns-5
 unfolding reasonWord
 returns-5 c = rw (c .before .before .before .before .before .reason .given .1) (c .before .before .append-node .ensures)
 
+same-length-6 : tie.Need-same-length-6
+same-length-6 c = search needs
+
+returns-6 : tie.Need-returns-6
+unfolding reasonWord
+returns-6 c = rw (c .before .before .before .before .before .enum-told5 .given .1) (c .before .before .append5 .ensures)
+
 pub append-reason-spec : {M : Type 1} → statement M
 append-reason-spec =
     tie.close
@@ -99,6 +115,9 @@ append-reason-spec =
     append-requires-4
     enum-known-reason
     append-node-requires
+    enum-told-5
+    slice-aggregate-append-5
+    append-requires-5
     same-length
     returns
     same-length-2
@@ -108,4 +127,6 @@ append-reason-spec =
     same-length-4
     returns-4
     same-length-5
-    returns-5)
+    returns-5
+    same-length-6
+    returns-6)

@@ -5,6 +5,9 @@ use Rattle.bus.proofs.World.act.Tie as tie
 nodes-used-requires : tie.Need-nodes-used-requires
 nodes-used-requires c κs = search needs
 
+sleeps-requires : tie.Need-sleeps-requires
+sleeps-requires c κs = search needs
+
 enum-told : tie.Need-enum-told
 enum-told c = search needs
 
@@ -63,7 +66,8 @@ returns : tie.Need-returns
 returns c =
     rw (
       c .tick .ensures,
-      c .before .before .before .nodes-used .ensures,
+      c .before .before .before .sleeps .ensures,
+      c .before .before .before .before .nodes-used .ensures,
       c .before .enum-told .given .1,
     )
 
@@ -71,7 +75,8 @@ returns-2 : tie.Need-returns-2
 returns-2 c =
     rw (
       c .node-wake-ask .ensures,
-      c .before .before .before .before .nodes-used .ensures,
+      c .before .before .before .before .sleeps .ensures,
+      c .before .before .before .before .before .nodes-used .ensures,
       c .before .before .act .given .1,
     )
 
@@ -86,7 +91,8 @@ returns-4 : tie.Need-returns-4
 returns-4 c =
     rw (
       c .node-permission .ensures,
-      c .before .before .before .before .nodes-used .ensures,
+      c .before .before .before .before .sleeps .ensures,
+      c .before .before .before .before .before .nodes-used .ensures,
       c .before .before .act2 .given .1,
     )
 
@@ -101,7 +107,7 @@ returns-6 : tie.Need-returns-6
 returns-6 c =
     rw (
       c .request .ensures,
-      c .before .before .before .before .nodes-used .ensures,
+      c .before .before .before .before .before .nodes-used .ensures,
       c .before .before .act4 .given .1,
     )
 
@@ -109,7 +115,7 @@ returns-7 : tie.Need-returns-7
 returns-7 c =
     rw (
       c .send-ask .ensures,
-      c .before .before .before .before .nodes-used .ensures,
+      c .before .before .before .before .before .nodes-used .ensures,
       c .before .before .act5 .given .1,
     )
 
@@ -117,6 +123,7 @@ returns-8 : tie.Need-returns-8
 returns-8 c =
     rw (
       c .sleep-ask .ensures,
+      c .before .before .before .sleeps .ensures,
       c .before .enum-told3 .given .1,
     )
 
@@ -124,7 +131,7 @@ returns-9 : tie.Need-returns-9
 returns-9 c =
     rw (
       c .send-result .ensures,
-      c .before .before .before .before .nodes-used .ensures,
+      c .before .before .before .before .before .nodes-used .ensures,
       c .before .before .act6 .given .1,
     )
 
@@ -133,6 +140,7 @@ act-spec =
     tie.close
     (tie.spec
     nodes-used-requires
+    sleeps-requires
     enum-told
     tick-requires
     enum-known-act

@@ -6,6 +6,9 @@ use Rattle.bus.proofs.World.step.Tie as tie
 plan-refusal-requires : tie.Need-plan-refusal-requires
 plan-refusal-requires c κs = search needs
 
+sleeps-requires : tie.Need-sleeps-requires
+sleeps-requires c κs = search needs
+
 in-range-requires : tie.Need-in-range-requires
 in-range-requires c κs = search needs
 
@@ -22,9 +25,10 @@ returns : tie.Need-returns
 returns c =
     rw (
       c .act .ensures,
+      ← c .before .before .before .sleeps .ensures,
       ← c .before .before .in-range .ensures,
-      ← c .before .before .before .before .before .plan-refusal .ensures,
-      eq-eqb _ _ (c .before .before .before .before .if1 .taken),
+      ← c .before .before .before .before .before .before .plan-refusal .ensures,
+      eq-eqb _ _ (c .before .before .before .before .before .if1 .taken),
       c .before .if2 .taken,
     )
 
@@ -32,9 +36,10 @@ returns-2 : tie.Need-returns-2
 returns-2 c =
     rw (
       c .stays .ensures,
+      ← c .before .before .before .sleeps .ensures,
       ← c .before .before .in-range .ensures,
-      ← c .before .before .before .before .before .plan-refusal .ensures,
-      eq-eqb _ _ (c .before .before .before .before .if1 .taken),
+      ← c .before .before .before .before .before .before .plan-refusal .ensures,
+      eq-eqb _ _ (c .before .before .before .before .before .if1 .taken),
       c .before .if2 .left,
     )
 
@@ -51,6 +56,7 @@ step-spec =
     tie.close
     (tie.spec
     plan-refusal-requires
+    sleeps-requires
     in-range-requires
     act-requires
     stays-requires

@@ -13,10 +13,10 @@ use Rattle.bus.proofs.range.nodes_in_range.Statement.{statement}
 use Rattle.bus.proofs.range.nodes_in_range.Tie as tie
 
 abbrev Inv-loop : tie.InvT-loop
-Inv-loop count times nodes i₀ i = (i ≤ count) × (count ≤ 16) × (length nodes ≡ 16) × (allTo (nodeInRange times nodes) i ≡ true)
+Inv-loop sleeps count times nodes i₀ i = (i ≤ count) × (count ≤ 16) × (length nodes ≡ 16) × (allTo (nodeInRange sleeps times nodes) i ≡ true)
 
 abbrev μ-loop : tie.MeasureT-loop
-μ-loop count times nodes i₀ i = count - i
+μ-loop sleeps count times nodes i₀ i = count - i
 
 loop-holds : tie.Need-loop-holds Inv-loop μ-loop
 loop-holds c = search (needs, all-none)

@@ -18,10 +18,10 @@ use Rattle.bus.proofs.ticks.tick_nodes.Statement.{statement}
 use Rattle.bus.proofs.ticks.tick_nodes.Tie as tie
 
 abbrev Inv-loop : tie.InvT-loop
-Inv-loop count times clock nodes₀ callers₀ i₀ nodes callers i = (i ≤ count) × (count ≤ 16) × (length nodes₀ ≡ 16) × (nodes ≡ tickedNodes times clock i nodes₀) × (callers ≡ tickCallers times clock i nodes₀)
+Inv-loop sleeps count times clock nodes₀ callers₀ i₀ nodes callers i = (i ≤ count) × (count ≤ 16) × (length nodes₀ ≡ 16) × (nodes ≡ tickedNodes sleeps times clock i nodes₀) × (callers ≡ tickCallers sleeps times clock i nodes₀)
 
 abbrev μ-loop : tie.MeasureT-loop
-μ-loop count times clock nodes₀ callers₀ i₀ nodes callers i = count - i
+μ-loop sleeps count times clock nodes₀ callers₀ i₀ nodes callers i = count - i
 
 loop-holds : tie.Need-loop-holds Inv-loop μ-loop
 loop-holds c = (search needs, search needs, search needs, refl, refl)
@@ -49,13 +49,13 @@ loop-again c =
     let at = c .before .before .before .before .loop in
     let a = c .before .before .before .before .before .args in
     let node = getD (at .nodes) (at .i) noNode in
-    let still = sym (rests-still (a .times) (a .clock) node (sym (c .before .rests .ensures) ∙ c .if1 .taken)) in
+    let still = sym (rests-still (a .sleeps) (a .times) (a .clock) node (sym (c .before .rests .ensures) ∙ c .if1 .taken)) in
     let same = each-next _ (a .t1) (at .nodes) (at .i) noNode (at .inv .3) in (
       omega arith,
       omega arith,
       at .inv .2,
       sym (set-getD (at .nodes) (at .i) noNode) ∙ each-more _ _ _ _ node noNode (at .inv .3) (ap (λ (r : Reply). r .node) still),
-      callers-more (λ k. tickStep (a .times) (a .clock) (nodeAt (a .t1) k) .command) (at .i) (at .callers) (at .callers) Command.Nothing (at .inv .4) (ap (λ (r : Reply). r .command) still ∙ ap (λ (n : Node). tickStep (a .times) (a .clock) n .command) same) refl,
+      callers-more (λ k. tickStep (a .sleeps) (a .times) (a .clock) (nodeAt (a .t1) k) .command) (at .i) (at .callers) (at .callers) Command.Nothing (at .inv .4) (ap (λ (r : Reply). r .command) still ∙ ap (λ (n : Node). tickStep (a .sleeps) (a .times) (a .clock) n .command) same) refl,
     )
 
 cast-node : tie.Need-cast-node Inv-loop μ-loop
@@ -98,7 +98,7 @@ loop-again-2 c =
       omega arith,
       at .inv .2,
       each-more _ _ _ _ _ _ (at .inv .3) (ap (λ (r : Reply). r .node) told),
-      callers-more _ _ _ _ _ (at .inv .4) (ap (λ (r : Reply). r .command) told ∙ ap (λ (n : Node). tickStep (a .times) (a .clock) n .command) same) (c .before .with-caller .ensures),
+      callers-more _ _ _ _ _ (at .inv .4) (ap (λ (r : Reply). r .command) told ∙ ap (λ (n : Node). tickStep (a .sleeps) (a .times) (a .clock) n .command) same) (c .before .with-caller .ensures),
     )
 
 returns : tie.Need-returns Inv-loop μ-loop

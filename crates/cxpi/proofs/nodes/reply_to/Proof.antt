@@ -45,6 +45,9 @@ is-polled-requires c κs = search needs
 node-of-requires : tie.Need-node-of-requires
 node-of-requires c κs = search needs
 
+sleeps-requires : tie.Need-sleeps-requires
+sleeps-requires c κs = search needs
+
 node-count-requires : tie.Need-node-count-requires
 node-count-requires c κs = search needs
 
@@ -56,14 +59,15 @@ returns-3 c =
     rw (
       c .step-with .ensures,
       c .before .node-count .ensures,
-      c .before .before .node-of .ensures,
-      c .before .before .before .is-polled .ensures,
-      c .before .before .before .before .times-of .ensures,
-      c .before .before .before .before .before .row-for .ensures,
-      c .before .before .before .before .before .before .event-of .ensures,
-      ← c .before .before .before .before .before .before .before .before .before .refusal-of .ensures,
-      eq-eqb _ _ (c .before .before .before .before .before .before .before .before .if1 .left),
-      le-ltb _ _ (c .before .before .before .before .before .before .before .if2 .left),
+      c .before .before .sleeps .ensures,
+      c .before .before .before .node-of .ensures,
+      c .before .before .before .before .is-polled .ensures,
+      c .before .before .before .before .before .times-of .ensures,
+      c .before .before .before .before .before .before .row-for .ensures,
+      c .before .before .before .before .before .before .before .event-of .ensures,
+      ← c .before .before .before .before .before .before .before .before .before .before .refusal-of .ensures,
+      eq-eqb _ _ (c .before .before .before .before .before .before .before .before .before .if1 .left),
+      le-ltb _ _ (c .before .before .before .before .before .before .before .before .if2 .left),
     )
 
 pub reply-to-spec : {M : Type 1} → statement M
@@ -80,6 +84,7 @@ reply-to-spec =
     times-of-requires
     is-polled-requires
     node-of-requires
+    sleeps-requires
     node-count-requires
     step-with-requires
     returns-3)

@@ -2,6 +2,9 @@ use borrow.Author.Needs.{needs}
 use Rattle.drill_feed.proofs.Drill.start.Statement.{statement}
 use Rattle.drill_feed.proofs.Drill.start.Tie as tie
 
+sleeps-requires : tie.Need-sleeps-requires
+sleeps-requires c κs = search needs
+
 power-on-requires : tie.Need-power-on-requires
 power-on-requires c κs = search needs
 
@@ -13,7 +16,8 @@ returns c =
     rw (
       c .empty .ensures,
       c .before .power-on .ensures,
+      c .before .before .sleeps .ensures,
     )
 
 pub start-spec : {M : Type 1} → statement M
-start-spec = tie.close (tie.spec power-on-requires empty-requires returns)
+start-spec = tie.close (tie.spec sleeps-requires power-on-requires empty-requires returns)

@@ -1,11 +1,12 @@
+use borrow.Author.Needs.{needs}
 use Rattle.master.proofs.Master.power_on.Statement.{statement}
 use Rattle.master.proofs.Master.power_on.Tie as tie
 
-returns : tie.Need-returns
-returns c = rw (c .if1 .taken)
+start-state-requires : tie.Need-start-state-requires
+start-state-requires c κs = search needs
 
-returns-2 : tie.Need-returns-2
-returns-2 c = rw (c .before .before .before .if1 .left)
+returns : tie.Need-returns
+returns c = rw (c .start-state .ensures)
 
 pub power-on-spec : {M : Type 1} → statement M
-power-on-spec = tie.close (tie.spec returns returns-2)
+power-on-spec = tie.close (tie.spec start-state-requires returns)

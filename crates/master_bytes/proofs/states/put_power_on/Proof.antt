@@ -1,8 +1,13 @@
 -- The front, then the counts, then the causes. Assumes nothing.
+use mathlib.Core.Path.{ap, _∙_}
+use Rattle.machine.specs.Bytes.{stateByte}
 use Rattle.master_bytes.proofs.StateTrips.{power-on-put}
 use borrow.Author.Needs.{needs}
 use Rattle.master_bytes.proofs.states.put_power_on.Statement.{statement}
 use Rattle.master_bytes.proofs.states.put_power_on.Tie as tie
+
+start-state-requires : tie.Need-start-state-requires
+start-state-requires c κs = search needs
 
 state-byte-requires : tie.Need-state-byte-requires
 state-byte-requires c κs = search needs
@@ -32,12 +37,13 @@ same-length : tie.Need-same-length
 same-length c = search needs
 
 returns : tie.Need-returns
-returns c = power-on-put _ _ _ _ _ (c .before .before .before .before .before .before .before .before .before .before .before .before .before .before .before .state-byte .ensures) (c .before .before .before .before .before .before .before .before .before .before .before .before .put .ensures) (c .before .before .before .before .before .before .before .put2 .ensures) (c .before .before .put3 .ensures)
+returns c = power-on-put _ _ _ _ _ _ (c .before .before .before .before .before .before .before .before .before .before .before .before .before .before .before .state-byte .ensures ∙ ap stateByte (c .before .before .before .before .before .before .before .before .before .before .before .before .before .before .before .before .start-state .ensures)) (c .before .before .before .before .before .before .before .before .before .before .before .before .put .ensures) (c .before .before .before .before .before .before .before .put2 .ensures) (c .before .before .put3 .ensures)
 
 pub put-power-on-spec : {M : Type 1} → statement M
 put-power-on-spec =
     tie.close
     (tie.spec
+    start-state-requires
     state-byte-requires
     array-write-front
     slice-aggregate-put

@@ -12,6 +12,9 @@ times-of-requires c κs = search needs
 master-of-requires : tie.Need-master-of-requires
 master-of-requires c κs = search needs
 
+sleeps-requires : tie.Need-sleeps-requires
+sleeps-requires c κs = search needs
+
 node-count-requires : tie.Need-node-count-requires
 node-count-requires c κs = search needs
 
@@ -23,9 +26,10 @@ returns c =
     rw (
       c .step-with .ensures,
       c .before .node-count .ensures,
-      c .before .before .master-of .ensures,
-      c .before .before .before .times-of .ensures,
-      c .before .before .before .before .row-for .ensures,
+      c .before .before .sleeps .ensures,
+      c .before .before .before .master-of .ensures,
+      c .before .before .before .before .times-of .ensures,
+      c .before .before .before .before .before .row-for .ensures,
     )
 
 pub step-on-spec : {M : Type 1} → statement M
@@ -35,6 +39,7 @@ step-on-spec =
     row-for-requires
     times-of-requires
     master-of-requires
+    sleeps-requires
     node-count-requires
     step-with-requires
     returns)

@@ -1,8 +1,13 @@
 -- The state's byte, and zeros. Assumes nothing.
+use mathlib.Core.Path.{ap, _∙_}
+use Rattle.machine.specs.Bytes.{stateByte}
 use Rattle.node_bytes.proofs.Heads.{power-on-put}
 use borrow.Author.Needs.{needs}
 use Rattle.node_bytes.proofs.states.put_power_on.Statement.{statement}
 use Rattle.node_bytes.proofs.states.put_power_on.Tie as tie
+
+start-state-requires : tie.Need-start-state-requires
+start-state-requires c κs = search needs
 
 state-byte-requires : tie.Need-state-byte-requires
 state-byte-requires c κs = search needs
@@ -20,12 +25,13 @@ same-length : tie.Need-same-length
 same-length c = search needs
 
 returns : tie.Need-returns
-returns c = power-on-put _ _ _ (c .before .before .before .before .before .state-byte .ensures) (c .before .before .put .ensures)
+returns c = power-on-put _ _ _ _ (c .before .before .before .before .before .state-byte .ensures ∙ ap stateByte (c .before .before .before .before .before .before .start-state .ensures)) (c .before .before .put .ensures)
 
 pub put-power-on-spec : {M : Type 1} → statement M
 put-power-on-spec =
     tie.close
     (tie.spec
+    start-state-requires
     state-byte-requires
     array-write-bytes
     slice-aggregate-put
