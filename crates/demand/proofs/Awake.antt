@@ -63,9 +63,10 @@ pub record AllAwake (p : Plan) (w : World) : Type 0 where
   pub master : MasterAwake.Awake (w .master)
 
 -- a machine that heard a pulse, or not
-spread-awake : (count : ℕ) (callers : Callers) (bus : Bus) (w : World) → MasterAwake.Awake (w .master) → MasterAwake.Awake (spread count callers bus w .master)
-spread-awake count callers bus w a =
-    by-test P (anyCalled callers) (λ c. by-test P (bus .master) (λ b. MasterAwake.awake-wake-up (w .master) a .0) (λ b. a)) (λ c. a)
+spread-awake : (count : ℕ) (callers : Callers) (bus : Bus) (m : Master) (nodes : List Node) → MasterAwake.Awake m
+    → MasterAwake.Awake (spread count callers bus (record { master = m; nodes = nodes }) .master)
+spread-awake count callers bus m nodes a =
+    by-test P (anyCalled callers) (λ c. by-test P (bus .master) (λ b. MasterAwake.awake-wake-up m a .0) (λ b. a)) (λ c. a)
   where
     P : World → Type 0
     P x = MasterAwake.Awake (x .master)
@@ -110,7 +111,7 @@ module _ (p : Plan) (ok : planRefusal p ≡ 0) where
     tick-kept bus =
         kept (tickMove false (p .times) (nodesUsed (p .nodecount)) bus w)
         (hears callers bus next (tickedNodes false (p .times) (clockOn next) (nodesUsed (p .nodecount)) (w .nodes)) ticks)
-        (spread-awake (nodesUsed (p .nodecount)) callers bus _ (stay .0)) (ap isOff (stay .1))
+        (spread-awake (nodesUsed (p .nodecount)) callers bus next (tickedNodes false (p .times) (clockOn next) (nodesUsed (p .nodecount)) (w .nodes)) (stay .0)) (ap isOff (stay .1))
       where
         next : Master
         next = MasterTicks.tickStep (p .times) (w .master) .master
@@ -138,7 +139,7 @@ module _ (p : Plan) (ok : planRefusal p ≡ 0) where
         let q = v .nodes .each node l in
         kept _
         (hears callers bus (w .master) (set (w .nodes) node (asked .node)) (alone node (asked .node) l (NodeAwake.awake-wake-ask (λ e. e ≡ false) (nodeAt (w .nodes) node) (q .0) (q .1))))
-        (spread-awake (nodesUsed (p .nodecount)) callers bus _ (v .master)) refl)
+        (spread-awake (nodesUsed (p .nodecount)) callers bus (w .master) (set (w .nodes) node (asked .node)) (v .master)) refl)
 
     permission-kept : (node : ℕ) (permitted : Bool) → Kept (nodePermission false (nodesUsed (p .nodecount)) node permitted w)
     permission-kept node permitted = of-node node _ (λ l.

@@ -5,11 +5,15 @@ use native.Mathlib.Omega.{arith}
 use Rattle.folds.specs.Fold.{allTo, anyTo}
 use Rattle.plan.specs.Rules.{timesRight, entryRight, differs, nodeRight, nodesRight, reqidBefore, rowAfter, rowRight, rowsRight, isFrom, publishes, allPublish, planRefusal}
 use Rattle.demand.specs.Demand3.{settlingTime, wakingTime}
-use Rattle.history.specs.Examples.{plan, quietPlan, recoveryPlan, windowPlan}
+use Rattle.history.specs.Examples.{plan, neverPlan, quietPlan, recoveryPlan, windowPlan}
 
 pub accepted : planRefusal plan ≡ 0
 unfolding planRefusal timesRight entryRight differs nodeRight nodesRight reqidBefore rowAfter rowRight rowsRight isFrom publishes allPublish allTo anyTo
 accepted = refl
+
+pub never-accepted : planRefusal neverPlan ≡ 0
+unfolding planRefusal timesRight entryRight differs nodeRight nodesRight reqidBefore rowAfter rowRight rowsRight isFrom publishes allPublish allTo anyTo
+never-accepted = refl
 
 pub quiet-accepted : planRefusal quietPlan ≡ 0
 unfolding planRefusal timesRight entryRight differs nodeRight nodesRight reqidBefore rowAfter rowRight rowsRight isFrom publishes allPublish allTo anyTo

@@ -9,6 +9,7 @@ pub mod Nodes
 mod Phases
 pub mod Reasons
 pub mod Shown
+mod ShownAwake
 mod ShownClocks
 mod ShownDark
 mod ShownReasons

@@ -1,6 +1,6 @@
 -- After every list of moves the reason that is told of the master is the one that the list shows.
 use Prim.Native.Nat.{ℕ, _<_}
-use mathlib.Core.Path.{_≡_, refl, sym, ap, ap₂, _∙_}
+use mathlib.Core.Path.{_≡_, refl, sym, ap, ap₂, subst, _∙_}
 use mathlib.Core.Bool.{Bool, true, false, not}
 use mathlib.Core.List.{List}
 use lib.Dec.{ltb}
@@ -96,10 +96,11 @@ module _ (p : Plan) (ok : planRefusal p ≡ 0) where
   judged m a f =
       rw (eq-eqb (planRefusal p) 0 ok, MasterRange.in-range (sleeps p) (p .nodecount) (p .times) m a f) (by-state (sleeps p) (p .nodecount) (m .state) m)
 
-  -- machines that never sleep
-  profile-told : (m : Master) → sleeps p ≡ false → Awake m → pick (isNormal (m .state)) (told (reasonBy (sleeps p) (p .nodecount) (m .phase) m)) (refused 16) ≡ told Reason.Profile
-  profile-told m never a = rw (never, awake-normal m a)
+  -- of machines that never sleep
+  of-awake : (m : Master) → Awake m → pick (isNormal (m .state)) (told (reasonBy false (p .nodecount) (m .phase) m)) (refused 16) ≡ told Reason.Profile
+  of-awake m a = rw (awake-normal m a)
 
+  -- and of those that do
   of-master : (m : Master) (past : List Passed) (s : Shown p m past) → MasterTold p m past
       → pick (isNormal (m .state)) (told (reasonBy true (p .nodecount) (m .phase) m)) (refused 16) ≡ pick (clockLeft past) (told (reasonShown p past)) (refused 16)
   of-master m past s v = go (clockLeft past) (s .clock)
@@ -130,7 +131,11 @@ module _ (p : Plan) (ok : planRefusal p ≡ 0) where
       awake : sleeps p ≡ false → Awake m
       awake never = run-awake p ok never moves .awake .master
 
-      go : (s : Bool) → sleeps p ≡ s
-          → pick (isNormal (m .state)) (told (reasonBy (sleeps p) (p .nodecount) (m .phase) m)) (refused 16) ≡ shown p (run p moves .past)
-      go true e = rw e (of-master m (run p moves .past) (v .shown e) v)
-      go false e = profile-told m e (awake e) ∙ rw e
+      Same : Bool → Type 0
+      Same s =
+          pick (isNormal (m .state)) (told (reasonBy s (p .nodecount) (m .phase) m)) (refused 16)
+          ≡ pick s (pick (clockLeft (run p moves .past)) (told (reasonShown p (run p moves .past))) (refused 16)) (told Reason.Profile)
+
+      go : (s : Bool) → sleeps p ≡ s → Same (sleeps p)
+      go true e = subst Same (sym e) (of-master m (run p moves .past) (v .shown e) v)
+      go false e = subst Same (sym e) (of-awake m (awake e))

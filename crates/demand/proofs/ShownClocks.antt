@@ -1,6 +1,6 @@
 -- What (b) and (c) ask for, constructed of the latest moves of a past; and that it is not there where the claim is not met.
 use Prim.Native.Nat.{ℕ, _-_, _<_}
-use mathlib.Core.Path.{_≡_, sym, ap, _∙_}
+use mathlib.Core.Path.{_≡_, sym, ap, subst, _∙_}
 use mathlib.Core.Bool.{Bool, true, false}
 use mathlib.Core.Logic.{_⊎_, ⊎-elim}
 use mathlib.Core.List.{List}
@@ -9,12 +9,13 @@ use Rattle.folds.proofs.Choices.{no-way}
 use Rattle.machine.specs.declared.State.{State}
 use Rattle.machine.specs.State.{isNormal}
 use Rattle.plan.specs.declared.Plan.{Plan}
+use Rattle.plan.specs.Profile.{sleeps}
 use Rattle.plan.specs.Rules.{planRefusal}
 use Rattle.node.specs.declared.Node.{Node}
 use Rattle.bus.specs.declared.Move.{Move}
 use Rattle.bus.specs.declared.Passed.{Passed}
 use Rattle.bus.specs.World.{nodeAt}
-use Rattle.demand.specs.Demand3.{ClockFor, SettlesAfter, settlingTime, WakesAfter, wakingTime}
+use Rattle.demand.specs.Demand3.{ClockFor, SettlesAfter, settlingTime, WakesAfter, wakingTime, SleepsAndWakes, DemandBy}
 use Rattle.history.specs.Run.{run}
 use Rattle.history.specs.Words.{every, none, ticksIn, leavesOn, leavesOff, isAsk, reaches}
 use Rattle.demand.proofs.Holds.{demand3}
@@ -41,33 +42,36 @@ lit n s e d = ⊎-elim (λ q. no-way (sym s ∙ ap asleep q)) (λ q. no-way (sym
 pub down : (n : Node) → isNormal (n .state) ≡ false → Up n → ⊥
 down n s u = no-way (sym s ∙ ap isNormal (u .0))
 
-module _ (p : Plan) (ok : planRefusal p ≡ 0) (moves : List Move) (i : ℕ) (l : i < p .nodecount) where
+module _ (p : Plan) (ok : planRefusal p ≡ 0) (s : sleeps p ≡ true) (moves : List Move) (i : ℕ) (l : i < p .nodecount) where
   abbrev at : Node
   at = nodeAt (run p moves .world .nodes) i
 
   abbrev past : List Passed
   past = run p moves .past
 
+  holds : SleepsAndWakes p moves
+  holds = subst (λ (b : Bool). DemandBy b p moves) s (demand3 p ok moves)
+
   -- (b): the latest k moves are all that it asks for, so node i is dark
   pub dark : (k : ℕ) → ticksIn (take k past) ≡ settlingTime (p .times) → every leavesOff (take k past) ≡ true → none isAsk (take k past) ≡ true → Dark at
-  dark k e f q = demand3 p ok moves .settles (clock-for k e f) q i l
+  dark k e f q = holds .settles (clock-for k e f) q i l
 
   -- node i is not: what (b) asks for is not there
   pub undue : asleep (at .state) ≡ false → at .error ≡ false → (off : ClockFor leavesOff (settlingTime (p .times)) past) → none isAsk (off .recent) ≡ true → ⊥
-  undue s e off q = lit at s e (demand3 p ok moves .settles off q i l)
+  undue z e off q = lit at z e (holds .settles off q i l)
 
   -- nor is it with one tick less: (b) with that in place of the settling time is false
   pub too-early : (k : ℕ) → ticksIn (take k past) ≡ settlingTime (p .times) - 1 → every leavesOff (take k past) ≡ true → none isAsk (take k past) ≡ true
       → asleep (at .state) ≡ false → at .error ≡ false → SettlesAfter (settlingTime (p .times) - 1) p past (run p moves .world .nodes) → ⊥
-  too-early k e f q s r claim = lit at s r (claim (clock-for k e f) q i l)
+  too-early k e f q z r claim = lit at z r (claim (clock-for k e f) q i l)
 
   -- (c) likewise
   pub up : (k : ℕ) → ticksIn (take k past) ≡ wakingTime (p .times) → every leavesOn (take k past) ≡ true → none (reaches i) (take k past) ≡ true → Up at
-  up k e f q = demand3 p ok moves .wakes (clock-for k e f) i l q
+  up k e f q = holds .wakes (clock-for k e f) i l q
 
   pub unowed : isNormal (at .state) ≡ false → (on : ClockFor leavesOn (wakingTime (p .times)) past) → none (reaches i) (on .recent) ≡ true → ⊥
-  unowed s on q = down at s (demand3 p ok moves .wakes on i l q)
+  unowed z on q = down at z (holds .wakes on i l q)
 
   pub too-soon : (k : ℕ) → ticksIn (take k past) ≡ wakingTime (p .times) - 1 → every leavesOn (take k past) ≡ true → none (reaches i) (take k past) ≡ true
       → isNormal (at .state) ≡ false → WakesAfter (wakingTime (p .times) - 1) p past (run p moves .world .nodes) → ⊥
-  too-soon k e f q s claim = down at s (claim (clock-for k e f) i l q)
+  too-soon k e f q z claim = down at z (claim (clock-for k e f) i l q)

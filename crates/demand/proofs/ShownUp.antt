@@ -20,16 +20,16 @@ use Rattle.demand.proofs.ShownClocks.{Up, up, unowed, too-soon}
 -- a sleep message that failed reached node 1 just before the first of the ticks: it sleeps at the S-th and is back at S + 2
 failed : Up (nodeAt (run plan (failing 4) .world .nodes) 1)
 unfolding findRow rowAmong hasReqid firstTo anyTo notHeld allOlder tab
-failed = up plan accepted (failing 4) 1 (omega arith) 4 refl refl refl
+failed = up plan accepted refl (failing 4) 1 (omega arith) 4 refl refl refl
 
 -- a tick before it is in Standby
 failed-early : WakesAfter (wakingTime (plan .times) - 1) plan (run plan (failing 3) .past) (run plan (failing 3) .world .nodes) → ⊥
 unfolding findRow rowAmong hasReqid firstTo anyTo notHeld allOlder tab
-failed-early = too-soon plan accepted (failing 3) 1 (omega arith) 3 refl refl refl refl
+failed-early = too-soon plan accepted refl (failing 3) 1 (omega arith) 3 refl refl refl refl
 
 failed-unowed : (on : ClockFor leavesOn (wakingTime (plan .times)) (run plan (failing 3) .past)) → none (reaches 1) (on .recent) ≡ true → ⊥
 unfolding findRow rowAmong hasReqid firstTo anyTo notHeld allOlder tab
-failed-unowed = unowed plan accepted (failing 3) 1 (omega arith) refl
+failed-unowed = unowed plan accepted refl (failing 3) 1 (omega arith) refl
 
 -- on for so long, but the message reached node 1 after the first tick, and it is in Standby
 reached-within :
@@ -41,7 +41,7 @@ reached-within = (refl, refl, refl)
 
 reached-unowed : (on : ClockFor leavesOn (wakingTime (plan .times)) (run plan (failingLater 3) .past)) → none (reaches 1) (on .recent) ≡ true → ⊥
 unfolding findRow rowAmong hasReqid firstTo anyTo notHeld allOlder tab
-reached-unowed = unowed plan accepted (failingLater 3) 1 (omega arith) refl
+reached-unowed = unowed plan accepted refl (failingLater 3) 1 (omega arith) refl
 
 -- the tick that switches the clock on is the first of those that count
 switched-first : (clockOn (run plan (waking 0) .world .master) ≡ false) × (clockOn (run plan (waking 1) .world .master) ≡ true)
@@ -50,4 +50,4 @@ switched-first = (refl, refl)
 
 switched : Up (nodeAt (run plan (waking 4) .world .nodes) 1)
 unfolding findRow rowAmong hasReqid firstTo anyTo notHeld allOlder tab
-switched = up plan accepted (waking 4) 1 (omega arith) 4 refl refl refl
+switched = up plan accepted refl (waking 4) 1 (omega arith) 4 refl refl refl

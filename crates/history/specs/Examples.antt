@@ -40,6 +40,19 @@ recoveryPlan = planWith (record { window = 3; stop = 2; sleep = 2; quiet = 1; re
 abbrev pub windowPlan : Plan
 windowPlan = planWith (record { window = 9; stop = 2; sleep = 2; quiet = 1; recovery = 2; space = 3; start = 1 })
 
+-- the first plan for a panel that never sleeps
+abbrev pub neverPlan : Plan
+neverPlan =
+    record {
+      revision = plan .revision;
+      profile = 1;
+      nodecount = plan .nodecount;
+      times = plan .times;
+      nodes = plan .nodes;
+      rowcount = plan .rowcount;
+      rows = plan .rows;
+    }
+
 -- a bus that loses nothing, and one that carries nothing but a pulse to some nodes
 abbrev pub lossless : Bus
 lossless = record { reached = replicate 16 true; hearing = replicate 16 true; master = true; fate = Fate.Whole }

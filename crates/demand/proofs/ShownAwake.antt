@@ -1,0 +1,62 @@
+-- What demand 3 and the reasons say of a panel that never sleeps (W-206), on computed lists, beside what the same lists show of one that does.
+use mathlib.Core.Path.{_≡_, refl, sym, ap, _∙_}
+use mathlib.Core.Bool.{true, false}
+use mathlib.Core.List.{List, [], _∷_, _++_}
+use native.Mathlib.Omega.{arith}
+use Rattle.folds.specs.Fold.{anyTo, firstTo, tab}
+use Rattle.folds.proofs.Choices.{no-way}
+use Rattle.machine.specs.declared.State.{State}
+use Rattle.machine.specs.State.{isNormal}
+use Rattle.plan.specs.declared.Plan.{Plan}
+use Rattle.plan.specs.Find.{hasReqid, rowAmong, findRow}
+use Rattle.node.specs.declared.Node.{Node}
+use Rattle.master.specs.Changes.{allWoken}
+use Rattle.master.specs.Sleeping.{notHeld}
+use Rattle.master.specs.Ticks.{allOlder, allAgedOut}
+use Rattle.master_reason.specs.declared.Reason.{Reason}
+use Rattle.master_reason.specs.Reasons.{told, refused}
+use Rattle.bus.specs.declared.Act.{Act}
+use Rattle.bus.specs.declared.Move.{Move}
+use Rattle.bus.specs.Moves.{worldAct}
+use Rattle.bus.specs.World.{nodeAt}
+use Rattle.history.specs.Examples.{plan, neverPlan, lossless, does, ticks, permitting, answering, asking, stopping}
+use Rattle.history.specs.Run.{run}
+use Rattle.history.specs.Words.{none, isSending, isStop}
+use Rattle.demand.specs.Demand3.{StaysAwake}
+use Rattle.demand.specs.Reasons.{shown}
+use Rattle.demand.proofs.ExamplePlans.{never-accepted}
+use Rattle.demand.proofs.Holds.{demand3}
+
+abbrev node : Plan → List Move → Node
+node p moves = nodeAt (run p moves .world .nodes) 0
+
+-- before any move
+first : node neverPlan [] .state ≡ State.Normal
+first = demand3 neverPlan never-accepted [] .awake 0 (omega arith) .0
+
+-- a list that stops the clock of a panel that sleeps stops none here: its sleep ask is refused 25, so nothing is sent
+stopped : (none isStop (run plan stopping .past) ≡ false) × (none isStop (run neverPlan stopping .past) ≡ true)
+unfolding findRow rowAmong hasReqid firstTo anyTo notHeld allOlder allAgedOut allWoken tab
+stopped = (refl, refl)
+
+asked : (worldAct plan (run plan answering .world) (does Act.SleepAsk) .refusal ≡ 0) × (worldAct neverPlan (run neverPlan answering .world) (does Act.SleepAsk) .refusal ≡ 25)
+    × (worldAct neverPlan (run neverPlan [] .world) (does Act.SleepAsk) .refusal ≡ 25) × (worldAct plan (run plan [] .world) (does Act.SleepAsk) .refusal ≡ 16)
+unfolding findRow rowAmong hasReqid firstTo anyTo notHeld allOlder allAgedOut allWoken tab
+asked = (refl, refl, refl, refl)
+
+-- after each time of the plan, with everyone's permission
+later : (node neverPlan (answering ++ ticks 9 lossless) .state ≡ State.Normal) × (node neverPlan (answering ++ ticks 9 lossless) .error ≡ false)
+unfolding findRow rowAmong hasReqid firstTo anyTo notHeld allOlder allAgedOut allWoken tab
+later = (refl, refl)
+
+-- of a panel that sleeps the claim is false, before any move
+sleeping : StaysAwake plan [] → ⊥
+sleeping claim = no-way (ap isNormal (claim .awake 0 (omega arith) .0))
+
+-- the reason is the profile, whatever else stands in the way: the own permission, a node's, or nothing
+reasons :
+    (shown neverPlan (run neverPlan [] .past) ≡ told Reason.Profile) × (shown plan (run plan [] .past) ≡ refused 16)
+    × (shown neverPlan (run neverPlan permitting .past) ≡ told Reason.Profile)
+    × (shown neverPlan (run neverPlan answering .past) ≡ told Reason.Profile) × (shown plan (run plan answering .past) ≡ told Reason.Nothing)
+unfolding findRow rowAmong hasReqid firstTo anyTo notHeld allOlder allAgedOut allWoken tab
+reasons = (refl, refl, refl, refl, refl)
