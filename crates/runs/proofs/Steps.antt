@@ -34,7 +34,7 @@ module _ (p : Plan) (ok : planRefusal p ≡ 0) where
   unfolding allMoves
   steps-after moves [] e = refl
   steps-after moves (s ∷ l) e =
-      let more : run p (moves ++ (moveOf s ∷ [])) ≡ then (run p moves) (worldAct p (run p moves .world) (moveOf s)) = run-last p start moves (moveOf s) in
+      let more : run p (moves ++ (moveOf s ∷ [])) ≡ then (run p moves) (worldAct p (run p moves .world) (moveOf s)) = run-last p (start p) moves (moveOf s) in
       ap (λ (r : Run). runFrom p r (map moveOf l)) (sym more) ∙ steps-after (moves ++ (moveOf s ∷ [])) l (and-r (isMove s) (allMoves l) e)
       ∙ ap (λ (r : Run). stepsFrom p r l) more ∙ ap (λ (o : Moved). stepsFrom p (then (run p moves) o) l) (sym (step-acts moves s (and-l (isMove s) (allMoves l) e)))
 

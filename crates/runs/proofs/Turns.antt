@@ -33,7 +33,7 @@ pub run-more : (p : Plan) (f : ℕ → Move) (k : ℕ) (world : World) (m : Move
     → r .world ≡ run p (tab (k + 1) f) .world
 run-more p f k world m r e q h =
     ap (λ (x : Moved). x .world) h ∙ ap (λ (x : World). worldAct p x m .world) e ∙ ap (λ (x : Move). worldAct p (run p (tab k f) .world) x .world) q
-    ∙ sym (ap (λ (x : Run). x .world) (run-last p start (tab k f) (f k))) ∙ sym (ap (λ (l : List Move). run p l .world) (tab-last k f))
+    ∙ sym (ap (λ (x : Run). x .world) (run-last p (start p) (tab k f) (f k))) ∙ sym (ap (λ (l : List Move). run p l .world) (tab-last k f))
     ∙ ap (λ (j : ℕ). run p (tab j f) .world) (sym (add-one k))
 
 module _ (p : Plan) (s : List ℕ) (k : ℕ) where

@@ -1,5 +1,6 @@
 -- A move as bytes, and a list of them from power-on.
 use Prim.Native.Nat.{ℕ}
+use mathlib.Core.Bool.{true}
 use mathlib.Core.List.{List, [], _∷_}
 use lib.Dec.{eqb}
 use Rattle.folds.specs.Fold.{pick}
@@ -33,7 +34,7 @@ stepsFrom p r (s ∷ more) = stepsFrom p (then r (stepOf p (r .world) s)) more
 
 -- from power-on
 abbrev pub steps : Plan → List (List ℕ) → Run
-steps p l = stepsFrom p start l
+steps p l = stepsFrom p (start p) l
 
 -- what a run answers
 abbrev pub ranTo : ℕ → World → Ran

@@ -37,7 +37,7 @@ same-length : tie.Need-same-length
 same-length c = search needs
 
 returns : tie.Need-returns
-returns c = power-on-put _ _ _ _ _ _ (c .before .before .before .before .before .before .before .before .before .before .before .before .before .before .before .state-byte .ensures ∙ ap stateByte (c .before .before .before .before .before .before .before .before .before .before .before .before .before .before .before .before .start-state .ensures)) (c .before .before .before .before .before .before .before .before .before .before .before .before .put .ensures) (c .before .before .before .before .before .before .before .put2 .ensures) (c .before .before .put3 .ensures)
+returns c = power-on-put (c .before .before .before .before .before .before .before .before .before .before .before .before .before .before .before .before .before .before .args .sleeps) _ _ _ _ _ (c .before .before .before .before .before .before .before .before .before .before .before .before .before .before .before .state-byte .ensures ∙ ap stateByte (c .before .before .before .before .before .before .before .before .before .before .before .before .before .before .before .before .start-state .ensures)) (c .before .before .before .before .before .before .before .before .before .before .before .before .put .ensures) (c .before .before .before .before .before .before .before .put2 .ensures) (c .before .before .put3 .ensures)
 
 pub put-power-on-spec : {M : Type 1} → statement M
 put-power-on-spec =
