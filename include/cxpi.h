@@ -13,8 +13,8 @@
  *
  *   cxpi_read             1 to 9 of the set, each over all blocks; 10 for the plan buffer
  *   cxpi_write            3 to 8 of the plan record; 10 for the set buffer
- *   cxpi_*_power_on       10 for the state buffer
- *   cxpi_*_step           3 to 8 of the plan record; 10 for the reply buffer; 11; 15; 16; the rest by number: 12, 13, 14, 17 to 21
+ *   cxpi_*_power_on       3 to 8 of the plan record; 10 for the state buffer
+ *   cxpi_*_step           3 to 8 of the plan record; 10 for the reply buffer; 11; 15; 16; 25; the rest by number: 12, 13, 14, 17 to 21
  *   cxpi_master_batch     22; the numbers of a step stand in the reply records, in a step's order
  *   cxpi_master_why       3 to 8 of the plan record; 10 for the reply buffer; 11; 16
  *   cxpi_node_configure   11 for another length of the identity; 23; 24; 10 for the answer buffer
@@ -78,6 +78,7 @@ uint32_t cxpi_version(void);
 #define CXPI_REPLIES_SHORT 22 /* fewer reply records than event records */
 #define CXPI_WRONG_REQUEST 23 /* request empty, of 2E hex and not 8 bytes long, or of 22 hex and not 3 */
 #define CXPI_NOT_SUPPORTED 24 /* request of any other service or identifier */
+#define CXPI_NEVER_SLEEPS 25  /* sleep ask or sleep message, and the plan's profile is that of panels that never sleep */
 
 /* Most of what there can be. */
 #define CXPI_MOST_NODES 16
@@ -128,18 +129,19 @@ uint32_t cxpi_read(const uint8_t *set, size_t set_length, uint8_t *plan, size_t 
 /* Writes the set of a plan record; length is the set's, CXPI_SET_LENGTH_ONE or CXPI_SET_LENGTH_TWO. */
 uint32_t cxpi_write(const uint8_t *plan, size_t plan_length, uint8_t *set, size_t set_length, uint16_t *length);
 
-/* The states of a master and of a node. */
+/* The states of a master and of a node. Under the profile of panels that never sleep each other than CXPI_NORMAL is out of range. */
 #define CXPI_NORMAL 0
 #define CXPI_STANDBY 1
 #define CXPI_SLEEP 2
 
-/* The phases of a master in Normal. What speaks against sleep calls back: Sending becomes Withdrawn, and Closing becomes Open. */
+/* The phases of a master in Normal. What speaks against sleep calls back: Sending becomes Withdrawn, and Closing becomes Open. Under the
+ * profile of panels that never sleep each other than CXPI_OPEN is out of range. */
 #define CXPI_OPEN 0
 #define CXPI_SENDING 1   /* the sleep message is under way */
 #define CXPI_WITHDRAWN 2 /* it was called back, its result is awaited */
 #define CXPI_CLOSING 3   /* it was sent, the clock is about to stop */
 
-/* A master's state. A state is in range where each field is within its limit, by the plan's N and times. */
+/* A master's state. A state is in range where each field is within its limit, by the plan's N, times and profile. */
 #define CXPI_MASTER_LENGTH 201
 #define CXPI_MASTER_STATE_AT 0      /* CXPI_NORMAL, CXPI_STANDBY or CXPI_SLEEP; the clock is on exactly in Normal */
 #define CXPI_MASTER_PHASE_AT 1      /* CXPI_OPEN, CXPI_SENDING, CXPI_WITHDRAWN or CXPI_CLOSING; CXPI_OPEN outside Normal */
@@ -163,8 +165,9 @@ uint32_t cxpi_write(const uint8_t *plan, size_t plan_length, uint8_t *set, size_
 #define CXPI_HOLD_HELD_AT 0 /* 1 if it is held, else 0; 0 from N on */
 #define CXPI_HOLD_AGE_AT 1  /* two bytes: ticks since the answer that gave it, 0 to W; 0 where it is not held */
 
-/* The master at power-on: Sleep, its own permission no, nothing held, no counts, all else 0. */
-uint32_t cxpi_master_power_on(uint8_t *state, size_t state_length);
+/* The master at power-on under a plan: Sleep, its own permission no, nothing held, no counts, all else 0. Where the plan's profile is that
+ * of panels that never sleep, Normal in the place of Sleep: no command follows, its unit switches the clock on at once. */
+uint32_t cxpi_master_power_on(const uint8_t *plan, size_t plan_length, uint8_t *state, size_t state_length);
 
 /* The events of a master: byte 0 is the kind, then what the event has. */
 #define CXPI_MASTER_TICK 0        /* 1 byte: a millisecond is over; none may be left out */
@@ -234,22 +237,23 @@ uint32_t cxpi_master_batch(const uint8_t *plan, size_t plan_length, uint8_t *sta
 
 /* The reply of cxpi_master_why. */
 #define CXPI_REASON_LENGTH 3
-#define CXPI_REASON_AT 0       /* CXPI_REASON_NONE to CXPI_REASON_NODE */
+#define CXPI_REASON_AT 0       /* CXPI_REASON_NONE to CXPI_REASON_PROFILE */
 #define CXPI_REASON_NODE_AT 1  /* with CXPI_REASON_NODE the lowest node whose permission is not held, else 0 */
 #define CXPI_REASON_CAUSE_AT 2 /* with CXPI_REASON_NODE its cause, CXPI_CAUSE_NEW to CXPI_CAUSE_WAKE, else 0 */
 
-/* Why the bus is still awake: the first of these that holds, from CXPI_REASON_SLEEP on. 5 is kept for a set whose panels never sleep. */
-#define CXPI_REASON_NONE 0  /* nothing stands in the way: the next sleep ask is accepted */
-#define CXPI_REASON_SLEEP 1 /* sleep is under way: Sending or Closing */
-#define CXPI_REASON_OWED 2  /* the result of a called-back sleep message is owed: Withdrawn */
-#define CXPI_REASON_OWN 3   /* the master's own permission is missing */
-#define CXPI_REASON_NODE 4  /* a node's permission is not held */
+/* Why the bus is still awake: CXPI_REASON_PROFILE where it holds, else the first of these that does, from CXPI_REASON_SLEEP on. */
+#define CXPI_REASON_NONE 0    /* nothing stands in the way: the next sleep ask is accepted */
+#define CXPI_REASON_SLEEP 1   /* sleep is under way: Sending or Closing */
+#define CXPI_REASON_OWED 2    /* the result of a called-back sleep message is owed: Withdrawn */
+#define CXPI_REASON_OWN 3     /* the master's own permission is missing */
+#define CXPI_REASON_NODE 4    /* a node's permission is not held */
+#define CXPI_REASON_PROFILE 5 /* the plan's profile is that of panels that never sleep */
 
 /* Why a master in Normal, by its stored state, is not asleep. The state is only read. */
 uint32_t cxpi_master_why(const uint8_t *plan, size_t plan_length, const uint8_t *state, size_t state_length, uint8_t *reply,
                          size_t reply_length);
 
-/* A node's state. A state is in range where each field is within its limit, by the plan's times. */
+/* A node's state. A state is in range where each field is within its limit, by the plan's times and profile. */
 #define CXPI_NODE_LENGTH 143
 #define CXPI_NODE_STATE_AT 0       /* CXPI_NORMAL, CXPI_STANDBY or CXPI_SLEEP */
 #define CXPI_NODE_PERMISSION_AT 1  /* its permission to sleep: 0 or 1 */
@@ -258,13 +262,14 @@ uint32_t cxpi_master_why(const uint8_t *plan, size_t plan_length, const uint8_t 
 #define CXPI_NODE_HEARD_AT 4       /* a request was heard: 0 or 1 */
 #define CXPI_NODE_CALLER_AT 5      /* in Standby, whether it called: 0 or 1; else 0 */
 #define CXPI_NODE_QUIET_AT 6       /* two bytes: quiet count, 0 to E */
-#define CXPI_NODE_DELAY_AT 8       /* 1 while a sleep delay runs, else 0 */
+#define CXPI_NODE_DELAY_AT 8       /* 1 while a sleep delay runs, else 0; none runs under the profile of panels that never sleep */
 #define CXPI_NODE_DELAY_TICKS_AT 9 /* two bytes: its ticks, below S; 0 where none runs */
 #define CXPI_NODE_STANDBY_AT 11    /* four bytes: standby count, 0 to 2R for a caller, below P for another; 0 outside Standby */
 #define CXPI_NODE_COUNTS_AT 15     /* CXPI_REQIDS bytes: next sequence count of each ReqId, 0 to 3 */
 
-/* A node at power-on: Sleep, its permission no, all else 0. */
-uint32_t cxpi_node_power_on(uint8_t *state, size_t state_length);
+/* A node at power-on under a plan: Sleep, its permission no, all else 0. Where the plan's profile is that of panels that never sleep,
+ * Normal in the place of Sleep. */
+uint32_t cxpi_node_power_on(const uint8_t *plan, size_t plan_length, uint8_t *state, size_t state_length);
 
 /* The events of a node: byte 0 is the kind, then what the event has. */
 #define CXPI_NODE_TICK 0          /* 2 bytes: a millisecond is over, 1 with clock, 0 without */

@@ -61,6 +61,8 @@ static inline const char *cxpi_refusal_text(uint32_t number) {
         return "the request is empty, or its length is not its service's";
     case CXPI_NOT_SUPPORTED:
         return "the request's service or identifier is not supported";
+    case CXPI_NEVER_SLEEPS:
+        return "a panel of this profile never sleeps";
     default:
         return "no refusal number";
     }

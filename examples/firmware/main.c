@@ -240,6 +240,7 @@ static void print_reason(void) {
         [CXPI_REASON_OWED] = "the result of a called-back message is owed",
         [CXPI_REASON_OWN] = "own permission is missing",
         [CXPI_REASON_NODE] = "permission is not held of node",
+        [CXPI_REASON_PROFILE] = "the panels of this set never sleep",
     };
     static const char *const causes[] = {
         [CXPI_CAUSE_NEW] = "never answered", [CXPI_CAUSE_REFUSED] = "refused",          [CXPI_CAUSE_AGED] = "aged out",
@@ -332,6 +333,15 @@ static uint32_t read_set(const char *path) {
     return cxpi_read(set, length, plan, sizeof plan);
 }
 
+/* A master that starts in Normal, as one of panels that never sleep does, commands no clock: its unit switches it on at once. */
+static void power_on(void) {
+    cxpi_master_power_on(plan, sizeof plan, master, sizeof master);
+    clock_runs = master[CXPI_MASTER_STATE_AT] == CXPI_NORMAL;
+    for (unsigned node = 0; node < node_count(); node++) {
+        cxpi_node_power_on(plan, sizeof plan, nodes[node], sizeof nodes[node]);
+    }
+}
+
 /* What a unit gathered between two interrupts, handed over in one call: from power-on to the clock's stop. */
 static void frame_slot(void) {
     static const struct cxpi_master_event queue[] = {
@@ -347,7 +357,7 @@ static void frame_slot(void) {
     };
     enum { EVENTS = sizeof queue / sizeof queue[0] };
     struct cxpi_master_reply replies[EVENTS];
-    cxpi_master_power_on(master, sizeof master);
+    cxpi_master_power_on(plan, sizeof plan, master, sizeof master);
     cxpi_master_batch(plan, sizeof plan, master, sizeof master, queue, EVENTS, replies, EVENTS);
     for (unsigned place = 0; place < EVENTS; place++) {
         printf("event %u: refusal %u, command %u\n", place, replies[place].refusal, replies[place].command);
@@ -364,10 +374,7 @@ int main(int count, char **arguments) {
         printf("set %u: %s\n", (unsigned)refusal, cxpi_refusal_text(refusal));
         return 1;
     }
-    cxpi_master_power_on(master, sizeof master);
-    for (unsigned node = 0; node < node_count(); node++) {
-        cxpi_node_power_on(nodes[node], sizeof nodes[node]);
-    }
+    power_on();
     configure_on_the_line();
     main_loop();
     frame_slot();

@@ -9,7 +9,7 @@ import sys
 import tempfile
 
 OF_A_SET = range(1, 10)  # the refusals that show prints
-REFUSALS = range(0, 25)  # with 0, done
+REFUSALS = range(0, 26)  # with 0, done
 
 
 def said_in_c(texts):

@@ -9,8 +9,8 @@ extern "C" {
 uint32_t (*version)() = cxpi_version;
 uint32_t (*read_set)(const uint8_t *, size_t, uint8_t *, size_t) = cxpi_read;
 uint32_t (*write_set)(const uint8_t *, size_t, uint8_t *, size_t, uint16_t *) = cxpi_write;
-uint32_t (*master_power_on)(uint8_t *, size_t) = cxpi_master_power_on;
-uint32_t (*node_power_on)(uint8_t *, size_t) = cxpi_node_power_on;
+uint32_t (*master_power_on)(const uint8_t *, size_t, uint8_t *, size_t) = cxpi_master_power_on;
+uint32_t (*node_power_on)(const uint8_t *, size_t, uint8_t *, size_t) = cxpi_node_power_on;
 uint32_t (*master_step)(const uint8_t *, size_t, uint8_t *, size_t, const uint8_t *, size_t, uint8_t *, size_t) = cxpi_master_step;
 uint32_t (*master_why)(const uint8_t *, size_t, const uint8_t *, size_t, uint8_t *, size_t) = cxpi_master_why;
 const char *(*refusal_text)(uint32_t) = cxpi_refusal_text;

@@ -6,7 +6,7 @@
 #include "cxpi_text.h"
 
 int main(void) {
-    for (uint32_t number = 0; number <= CXPI_NOT_SUPPORTED + 10; number++) {
+    for (uint32_t number = 0; number <= CXPI_NEVER_SLEEPS + 10; number++) {
         printf("%u %s\n", (unsigned)number, cxpi_refusal_text(number));
     }
     printf("%u %s\n", (unsigned)UINT32_MAX, cxpi_refusal_text(UINT32_MAX));
