@@ -53,10 +53,10 @@ void reference_encode_move(const reference_move *move, uint8_t *record) {
 
 /* The world */
 
-void reference_world_power_on(reference_world *world) {
-    reference_master_power_on(&world->master);
+void reference_world_power_on(const reference_plan *plan, reference_world *world) {
+    reference_master_power_on(plan, &world->master);
     for (size_t number = 0; number < REFERENCE_NODES; number++) {
-        reference_node_power_on(&world->nodes[number]);
+        reference_node_power_on(plan, &world->nodes[number]);
     }
 }
 

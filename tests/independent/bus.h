@@ -39,7 +39,7 @@ typedef struct {
     uint8_t wake;
 } reference_move;
 
-/* Nodes from the plan's N on stay at power-on. */
+/* Nodes from the plan's N on stay at power-on, as a node of the plan's profile starts. */
 typedef struct {
     reference_master master;
     reference_node nodes[REFERENCE_NODES];
@@ -50,7 +50,8 @@ bool reference_decode_move(const uint8_t *record, reference_move *move);
 
 void reference_encode_move(const reference_move *move, uint8_t *record);
 
-void reference_world_power_on(reference_world *world);
+/* Power-on under an accepted plan, or without W-206's profile under the all-zero record of a refused one. */
+void reference_world_power_on(const reference_plan *plan, reference_world *world);
 
 bool reference_clock_is_on(const reference_world *world);
 

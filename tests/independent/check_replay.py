@@ -27,12 +27,12 @@ def block(values):
     return bytes(data)
 
 
-def plan_set(times, methods, rows):
-    """A set of revision 7: the times W, D, S, E, R, P, C, each node's method, each row's ReqId and publisher."""
+def plan_set(times, methods, rows, profile=0):
+    """A set of revision 7: the times W, D, S, E, R, P, C, each node's method, each row's ReqId and publisher; profile 1 never sleeps."""
     head = b"".join(time.to_bytes(2, "big") for time in times)
     entries = b"".join(bytes([0x41 + node, 1, method, 0]) for node, method in enumerate(methods))
     listed = b"".join(bytes([reqid, publisher, 2, 1]) for reqid, publisher in rows)
-    first = block([(0, bytes([0x50, 1, 0, 7, len(methods)])), (6, head), (32, entries)])
+    first = block([(0, bytes([0x50, 1, 0, 7, len(methods), profile])), (6, head), (32, entries)])
     return first + block([(0, bytes([0x4D, 1, 0, 7, len(rows)])), (8, listed)])
 
 
@@ -41,6 +41,8 @@ SET_T = plan_set([10, 2, 3, 4, 5, 6, 1], [1], [(16, 0)])
 THREE = plan_set([3, 2, 2, 1, 2, 3, 1], [1, 1, 1], [(1, 0), (2, 1), (3, 2), (4, MASTER)])
 # Two nodes and R 1: a caller's second pulse comes with its first tick.
 QUICK = plan_set([3, 2, 2, 1, 1, 3, 1], [0, 0], [(1, 0), (2, 1)])
+# The three nodes of panels that never sleep.
+TRUCK = plan_set([3, 2, 2, 1, 2, 3, 1], [1, 1, 1], [(1, 0), (2, 1), (3, 2), (4, MASTER)], profile=1)
 
 TICK, SLEEP_ASK, SENT = move(0), move(7), move(8, value=1)
 WAKE_MASTER, PERMIT_MASTER, FORBID_MASTER = move(2), move(4, value=1), move(4, value=0)
@@ -130,6 +132,13 @@ CASES = [
                   move(1, hearing=NONE, master=0), TICK],
      ASKED_TWO_LINES + ["N1 1 NN 0", "N3 1 NN 0", "N0 1 NN 0", "N0 1 NN 0", "N0 1 NN 0", "N1 1 NN 0", "N3 1 NN 0", "N3 1 ZZ 0", "N3 1 SZ 0",
                         "S0 0 SS 0"]),
+    ("panels that never sleep", TRUCK,
+     [SLEEP_ASK, SENT, move(8, value=0), move(6, node=0, value=1), move(6, node=1, value=1), move(5, value=4)] + 12 * [TICK] +
+     [move(3, node=node, value=1) for node in range(3)] + [PERMIT_MASTER] + [move(5, value=reqid) for reqid in (1, 2, 3)] +
+     [SLEEP_ASK, SENT, FORBID_MASTER, SLEEP_ASK, move(1, node=2), WAKE_MASTER, move(5, value=3), move(5, value=1, fate=1, result=1),
+      move(1, node=3), move(6, node=0, value=2), move(5, value=9), move(5, value=128), SLEEP_ASK] + 9 * [TICK],
+     ["N0 1 NNN %d" % refusal for refusal in [25, 17, 17, 21, 12, 0] + 12 * [0] + 3 * [0] + [0] + 3 * [0] +
+      [25, 17, 0, 25, 0, 0, 0, 13, 11, 12, 12, 15, 25] + 9 * [0]]),
 ]
 
 FOLDER = object()  # in the place of a set's bytes: plan.set can't be read

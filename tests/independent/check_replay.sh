@@ -36,15 +36,17 @@ for source in make_set big_plan drill; do
 done
 "$first" "$work/make_set.o" "$work/big_plan.o" "$here/reference.c" -o "$work/make_set"
 "$first" "$work/drill.o" "$here/reference.c" -o "$work/drill"
-for seed in 1 2; do
-    (
-        cd "$work"
-        ./make_set > plan.set
-        python3 "$here/make_drill.py" plan.set 50000 $seed > lines
-        python3 "$here/drill_records.py" < lines > moves
-        ./drill < lines > wanted
-        ./checked_replay < moves | cmp - wanted
-    )
+for profile in "" profile; do
+    for seed in 1 2; do
+        (
+            cd "$work"
+            ./make_set $profile > plan.set
+            python3 "$here/make_drill.py" plan.set 25000 $seed > lines
+            python3 "$here/drill_records.py" < lines > moves
+            ./drill < lines > wanted
+            ./checked_replay < moves | cmp - wanted
+        )
+    done
 done
 echo '100000 moves of drills as the independent drill prints them'
 
@@ -92,4 +94,9 @@ fault reference.c '/^static void wake_all/,/^}/s/if (master->permissions\[number
 fault reference.c 's/master->causes\[row->publisher\] = REFERENCE_CAUSE_NEW;//' # kept while held
 fault reference.c 's/REFERENCE_CAUSE_AGED : /REFERENCE_CAUSE_WAKE : /'
 fault reference.c '/^static uint32_t master_tick/,/^}/s/forget_causes(master);//'
+fault reference.c '/^void reference_master_power_on/,/^}/s/state_at_power_on(plan)/REFERENCE_SLEEP/'
+fault reference.c '/^void reference_node_power_on/,/^}/s/state_at_power_on(plan)/REFERENCE_SLEEP/'
+fault reference.c '/^static uint8_t state_at_power_on/,/^}/s/never_sleeps(plan)/false/'
+fault reference.c '/^uint32_t reference_master_act/,/^}/s/never_sleeps(plan)/false/'
+fault reference.c '/^uint32_t reference_master_act/,/^}/s/never_sleeps(plan)/& \&\& master->own_permission/' # 19 before 25
 echo "$found faults, each found by the comparison"

@@ -9,7 +9,7 @@
 
 #include "run.h"
 
-enum { LABELS = 400, LABEL_ROOM = 96, REFUSALS = 22 };
+enum { LABELS = 400, LABEL_ROOM = 96, REFUSALS = 26 };
 
 static const char *const act_names[REFERENCE_ACTS] = {
     "tick",        "node's ask to wake", "master's ask to wake", "node's permission", "master's permission", "request",

@@ -1,5 +1,5 @@
 /* Document 01's drill over the independent implementation: reads plan.set in the working folder and moves from standard input. With the
- * argument why it prints document 02's line more after the moves (W-205).
+ * argument why it prints document 02's line more after the moves (W-205, W-206).
  *
  * Compile: gcc -std=c11 -O2 -Wall -Wextra -Werror -pedantic tests/independent/drill.c tests/independent/reference.c -o drill
  * Run:     ./drill [why] < moves (tests/independent/check_drill.sh runs document 01's twelve) */
@@ -328,7 +328,11 @@ static uint32_t read_plan(reference_plan *plan) {
 }
 
 static void print_why(const network *bus) {
-    static const char *const words[] = {"none", "sleep", "owed", "own"};
+    static const char *const words[] = {[REFERENCE_REASON_NONE] = "none",
+                                        [REFERENCE_REASON_SLEEP] = "sleep",
+                                        [REFERENCE_REASON_OWED] = "owed",
+                                        [REFERENCE_REASON_OWN] = "own",
+                                        [REFERENCE_REASON_PROFILE] = "profile"};
     static const char *const causes[] = {"new", "refused", "aged", "damaged", "wake"};
     reference_reason reason;
     uint32_t refusal = reference_master_why(&bus->plan, &bus->master, &reason);
@@ -354,9 +358,9 @@ int main(int count, char **arguments) {
         printf("set %u\n", (unsigned)refusal);
         return 0;
     }
-    reference_master_power_on(&bus.master);
+    reference_master_power_on(&bus.plan, &bus.master);
     for (size_t node = 0; node < bus.plan.node_count; node++) {
-        reference_node_power_on(&bus.nodes[node]);
+        reference_node_power_on(&bus.plan, &bus.nodes[node]);
     }
     for (uint64_t number = 1; read_line(&read); number++) {
         move made;

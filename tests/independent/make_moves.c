@@ -158,9 +158,10 @@ static void make_rows(maker *make) {
     }
 }
 
-/* The number of nodes goes round with the seed, so that few seeds have every number. */
+/* The number of nodes goes round with the seed, so that few seeds have every number; every fifth plan is of panels that never sleep. */
 static void make_plan(maker *make, uint64_t seed) {
     make->plan.revision = (uint16_t)between(make, 1, 65535);
+    make->plan.profile = seed % 5 == 0;
     make->plan.node_count = (uint8_t)(1 + seed % REFERENCE_NODES);
     make_times(make);
     make_nodes(make);
@@ -679,7 +680,7 @@ int main(int argc, char **argv) {
     make.last_length = between(&make, 1, REFERENCE_MOVE_LENGTH);
     make_plan(&make, seed);
     write_set(&make.plan, argv[3]);
-    reference_world_power_on(&make.world);
+    reference_world_power_on(&make.plan, &make.world);
     make.moves = open_in(argv[3], "moves");
     make_moves(&make);
     close_written(make.moves);

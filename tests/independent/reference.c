@@ -1,4 +1,5 @@
-/* Document 01 in plain C, mended by W-204, with W-205 and the profile of W-206: the reader and writer of release sets, the master machine and the node machine.
+/* Document 01 in plain C, mended by W-204, with W-205 and W-206: the reader and writer of release sets, the master machine and the node
+ * machine.
  *
  * Compile: gcc -std=c11 -O2 -Wall -Wextra -Werror -pedantic -c tests/independent/reference.c */
 #include "reference.h"
@@ -350,11 +351,20 @@ uint32_t reference_write(const reference_plan *plan, uint8_t *set, size_t room, 
     return 0;
 }
 
+/* W-206's profile: "Machines of such a set start in Normal with the clock on, never leave it". */
+static bool never_sleeps(const reference_plan *plan) {
+    return plan->profile == 1;
+}
+
+static uint8_t state_at_power_on(const reference_plan *plan) {
+    return never_sleeps(plan) ? REFERENCE_NORMAL : REFERENCE_SLEEP;
+}
+
 /* The master */
 
-void reference_master_power_on(reference_master *master) {
+void reference_master_power_on(const reference_plan *plan, reference_master *master) {
     memset(master, 0, sizeof *master);
-    master->state = REFERENCE_SLEEP;
+    master->state = state_at_power_on(plan);
     memset(master->last_counts, REFERENCE_NO_COUNT, sizeof master->last_counts);
 }
 
@@ -405,6 +415,9 @@ bool reference_master_in_range(const reference_plan *plan, const reference_maste
         return false;
     }
     if (master->state != REFERENCE_NORMAL && master->phase != REFERENCE_OPEN) {
+        return false;
+    }
+    if (never_sleeps(plan) && (master->state != REFERENCE_NORMAL || master->phase != REFERENCE_OPEN)) {
         return false;
     }
     return delay_in_range(plan, master) && permissions_in_range(plan, master) && causes_in_range(plan, master) &&
@@ -587,6 +600,9 @@ uint32_t reference_master_act(const reference_plan *plan, reference_master *mast
     if (master_event_needs_normal(event->kind) && master->state != REFERENCE_NORMAL) {
         return 16;
     }
+    if (event->kind == REFERENCE_MASTER_SLEEP && never_sleeps(plan)) {
+        return 25;
+    }
     switch (event->kind) {
     case REFERENCE_MASTER_TICK:
         return master_tick(plan, master, reply);
@@ -617,8 +633,11 @@ uint32_t reference_master_step(const reference_plan *plan, reference_master *mas
 }
 
 /* "the first true reason of these: sleep under way; result of a called-back message owed; own permission missing; or the lowest node
- * not held" */
+ * not held"; W-206: "the profile itself as the reason, before all others" */
 static reference_reason first_reason(const reference_plan *plan, const reference_master *master) {
+    if (never_sleeps(plan)) {
+        return (reference_reason){.kind = REFERENCE_REASON_PROFILE};
+    }
     if (master->phase == REFERENCE_SENDING || master->phase == REFERENCE_CLOSING) {
         return (reference_reason){.kind = REFERENCE_REASON_SLEEP};
     }
@@ -654,9 +673,9 @@ uint32_t reference_master_why(const reference_plan *plan, const reference_master
 
 /* The node */
 
-void reference_node_power_on(reference_node *node) {
+void reference_node_power_on(const reference_plan *plan, reference_node *node) {
     memset(node, 0, sizeof *node);
-    node->state = REFERENCE_SLEEP;
+    node->state = state_at_power_on(plan);
 }
 
 bool reference_node_in_range(const reference_plan *plan, const reference_node *node) {
@@ -671,6 +690,9 @@ bool reference_node_in_range(const reference_plan *plan, const reference_node *n
     if (node->delay_runs ? node->delay >= times->sleep : node->delay != 0) {
         return false;
     }
+    if (never_sleeps(plan) && (node->state != REFERENCE_NORMAL || node->delay_runs)) {
+        return false;
+    }
     if (node->state != REFERENCE_STANDBY) {
         if (node->caller || node->standby_count != 0) {
             return false;
@@ -683,9 +705,7 @@ bool reference_node_in_range(const reference_plan *plan, const reference_node *n
 
 /* "Entering Sleep clears all but permission." */
 static void enter_sleep(reference_node *node) {
-    uint8_t permission = node->permission;
-    reference_node_power_on(node);
-    node->permission = permission;
+    *node = (reference_node){.state = REFERENCE_SLEEP, .permission = node->permission};
 }
 
 /* "Entering Normal clears error, heard, caller, sleep delay and every count." */
@@ -720,9 +740,10 @@ static bool delay_ends(const reference_plan *plan, reference_node *node) {
     return true;
 }
 
-static void show_error(reference_node *node) {
+/* W-206: "set the network error at E without sleeping". */
+static void show_error(const reference_plan *plan, reference_node *node) {
     node->error = 1;
-    if (node->permission) {
+    if (node->permission && !never_sleeps(plan)) {
         enter_sleep(node);
     }
 }
@@ -751,7 +772,7 @@ static void quiet_tick(const reference_plan *plan, reference_node *node) {
         node->quiet_count++;
     }
     if (node->quiet_count == plan->times.quiet) {
-        show_error(node);
+        show_error(plan, node);
     }
 }
 
@@ -764,7 +785,7 @@ static void caller_tick(const reference_plan *plan, reference_node *node, refere
         reply->command = REFERENCE_SEND_PULSE;
     }
     if (node->standby_count == 2 * recovery) {
-        show_error(node);
+        show_error(plan, node);
     }
 }
 
@@ -806,9 +827,13 @@ static void call_master(reference_node *node, reference_node_reply *reply) {
     reply->command = REFERENCE_SEND_PULSE;
 }
 
-/* W-204: "in Normal while the error shows" too, "count and quiet count 0, error and sleep delay off". */
-static uint32_t node_wake(reference_node *node, reference_node_reply *reply) {
+/* W-204: "in Normal while the error shows" too, "count and quiet count 0, error and sleep delay off". W-206: under its profile an ask "only
+ * sets the wake bit". */
+static uint32_t node_wake(const reference_plan *plan, reference_node *node, reference_node_reply *reply) {
     node->wake = 1;
+    if (never_sleeps(plan)) {
+        return 0;
+    }
     if (node->state == REFERENCE_SLEEP || (node->state == REFERENCE_STANDBY && !node->caller)) {
         call_master(node, reply);
     } else if (node->state == REFERENCE_NORMAL && node->error) {
@@ -821,9 +846,10 @@ static uint32_t node_wake(reference_node *node, reference_node_reply *reply) {
     return 0;
 }
 
-static uint32_t node_permission(reference_node *node, uint8_t permission) {
+/* W-206: under its profile "its permission is only set". */
+static uint32_t node_permission(const reference_plan *plan, reference_node *node, uint8_t permission) {
     node->permission = permission;
-    if (permission && node->error) {
+    if (permission && node->error && !never_sleeps(plan)) {
         enter_sleep(node);
     }
     return 0;
@@ -897,15 +923,18 @@ uint32_t reference_node_act(const reference_plan *plan, uint8_t number, referenc
     if (node_event_needs_normal(event->kind) && node->state != REFERENCE_NORMAL) {
         return 16;
     }
+    if (event->kind == REFERENCE_NODE_SLEEP_MESSAGE && never_sleeps(plan)) {
+        return 25;
+    }
     switch (event->kind) {
     case REFERENCE_NODE_TICK:
         return node_tick(plan, node, event->clock, reply);
     case REFERENCE_NODE_PULSE:
         return node_pulse(node);
     case REFERENCE_NODE_WAKE:
-        return node_wake(node, reply);
+        return node_wake(plan, node, reply);
     case REFERENCE_NODE_PERMISSION:
-        return node_permission(node, event->permission);
+        return node_permission(plan, node, event->permission);
     case REFERENCE_NODE_SLEEP_MESSAGE:
         return node_sleep_message(node);
     case REFERENCE_NODE_REQUEST:

@@ -108,8 +108,15 @@ typedef struct {
     uint8_t node; /* that 20 names */
 } reference_master_reply;
 
-/* Document 02's reasons why the bus stays awake, first before last. */
-enum { REFERENCE_REASON_NONE, REFERENCE_REASON_SLEEP, REFERENCE_REASON_OWED, REFERENCE_REASON_OWN, REFERENCE_REASON_NODE };
+/* Document 02's reasons why the bus stays awake, first before last but for W-206's. */
+enum {
+    REFERENCE_REASON_NONE,
+    REFERENCE_REASON_SLEEP,
+    REFERENCE_REASON_OWED,
+    REFERENCE_REASON_OWN,
+    REFERENCE_REASON_NODE,
+    REFERENCE_REASON_PROFILE /* W-206: before all others */
+};
 
 typedef struct {
     uint8_t kind;
@@ -162,17 +169,18 @@ typedef struct {
 /* Reads a set. Returns 0 or a refusal from 1 to 9, which leaves an all-zero record. */
 uint32_t reference_read(const uint8_t *set, size_t length, reference_plan *plan);
 
-/* Writes a set into a buffer of so many bytes. Returns 0 and the set's length; or a refusal, 4 to 8 or 10, which leaves the buffer
+/* Writes a set into a buffer of so many bytes. Returns 0 and the set's length; or a refusal, 3 to 8 or 10, which leaves the buffer
  * untouched, and length 0. */
 uint32_t reference_write(const reference_plan *plan, uint8_t *set, size_t room, uint16_t *length);
 
-/* The first of the refusals 4 to 8 of a plan record, or 0. */
+/* The first of the refusals 3 to 8 of a plan record, or 0. */
 uint32_t reference_plan_refusal(const reference_plan *plan);
 
 /* The row of a ReqId, or null. */
 const reference_row *reference_find_row(const reference_plan *plan, uint8_t reqid);
 
-void reference_master_power_on(reference_master *master);
+/* Power-on under an accepted plan; the all-zero record of a refused set serves as one without W-206's profile. */
+void reference_master_power_on(const reference_plan *plan, reference_master *master);
 bool reference_master_in_range(const reference_plan *plan, const reference_master *master);
 
 /* A step of the master. Returns 0 or the refusal. */
@@ -183,10 +191,10 @@ uint32_t reference_master_step(const reference_plan *plan, reference_master *mas
 uint32_t reference_master_act(const reference_plan *plan, reference_master *master, const reference_master_event *event,
                               reference_master_reply *reply);
 
-/* Why the master's bus stays awake. Returns 0 or the refusal, 4 to 8, 11 or 16, which leaves a reason of zeros. */
+/* Why the master's bus stays awake. Returns 0 or the refusal, 3 to 8, 11 or 16, which leaves a reason of zeros. */
 uint32_t reference_master_why(const reference_plan *plan, const reference_master *master, reference_reason *reason);
 
-void reference_node_power_on(reference_node *node);
+void reference_node_power_on(const reference_plan *plan, reference_node *node);
 bool reference_node_in_range(const reference_plan *plan, const reference_node *node);
 
 /* A step of the node of that number. Returns 0 or the refusal. */

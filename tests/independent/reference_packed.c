@@ -120,12 +120,18 @@ static void unpack_master(const uint8_t *bytes, reference_master *master) {
     memcpy(master->causes, bytes + 185, sizeof master->causes);
 }
 
-uint32_t reference_cxpi_master_power_on(uint8_t *state, size_t state_length) {
+uint32_t reference_cxpi_master_power_on(const uint8_t *plan, size_t plan_length, uint8_t *state, size_t state_length) {
+    reference_plan record;
     reference_master master;
+    take_plan(plan, plan_length, &record);
+    uint32_t refusal = reference_plan_refusal(&record);
+    if (refusal != 0) {
+        return refusal;
+    }
     if (state_length < CXPI_MASTER_LENGTH) {
         return CXPI_BUFFER_SHORT;
     }
-    reference_master_power_on(&master);
+    reference_master_power_on(&record, &master);
     reference_pack_master(&master, state);
     return CXPI_DONE;
 }
@@ -305,12 +311,18 @@ static void unpack_node(const uint8_t *bytes, reference_node *node) {
     memcpy(node->counts, bytes + 15, sizeof node->counts);
 }
 
-uint32_t reference_cxpi_node_power_on(uint8_t *state, size_t state_length) {
+uint32_t reference_cxpi_node_power_on(const uint8_t *plan, size_t plan_length, uint8_t *state, size_t state_length) {
+    reference_plan record;
     reference_node node;
+    take_plan(plan, plan_length, &record);
+    uint32_t refusal = reference_plan_refusal(&record);
+    if (refusal != 0) {
+        return refusal;
+    }
     if (state_length < CXPI_NODE_LENGTH) {
         return CXPI_BUFFER_SHORT;
     }
-    reference_node_power_on(&node);
+    reference_node_power_on(&record, &node);
     reference_pack_node(&node, state);
     return CXPI_DONE;
 }

@@ -11,8 +11,8 @@
 uint32_t reference_cxpi_version(void);
 uint32_t reference_cxpi_read(const uint8_t *set, size_t set_length, uint8_t *plan, size_t plan_length);
 uint32_t reference_cxpi_write(const uint8_t *plan, size_t plan_length, uint8_t *set, size_t set_length, uint16_t *length);
-uint32_t reference_cxpi_master_power_on(uint8_t *state, size_t state_length);
-uint32_t reference_cxpi_node_power_on(uint8_t *state, size_t state_length);
+uint32_t reference_cxpi_master_power_on(const uint8_t *plan, size_t plan_length, uint8_t *state, size_t state_length);
+uint32_t reference_cxpi_node_power_on(const uint8_t *plan, size_t plan_length, uint8_t *state, size_t state_length);
 uint32_t reference_cxpi_master_step(const uint8_t *plan, size_t plan_length, uint8_t *state, size_t state_length, const uint8_t *event,
                                     size_t event_length, uint8_t *reply, size_t reply_length);
 uint32_t reference_cxpi_node_step(const uint8_t *plan, size_t plan_length, uint8_t node, uint8_t *state, size_t state_length,

@@ -17,8 +17,9 @@ static uint32_t read_plan(const char *path, reference_plan *plan) {
 
 uint32_t reference_run_start(reference_run *run, const char *set_path, FILE *moves) {
     *run = (reference_run){.moves = moves};
-    reference_world_power_on(&run->world);
-    return read_plan(set_path, &run->plan);
+    uint32_t refusal = read_plan(set_path, &run->plan);
+    reference_world_power_on(&run->plan, &run->world);
+    return refusal;
 }
 
 bool reference_run_next(reference_run *run) {
