@@ -6,7 +6,8 @@ here calls the product or works a rule out: what is not named as changed stays a
 
 Plan 0: two nodes, node 0 polled, node 1 event-triggered; W 10, D 2, S 3, E 4, R 5, P 6, C 2; row 16 of node 0, length 2, with a
 sequence count; row 17 of node 1, length 3, without one; row 18 of the master. Plan 1: the same with all times 1. Plan 2: the same
-with revision 0. Plan 3: node 0 and row 16 alone. Plan 4: sixteen nodes; row 17 and the places of node 1 are node 15's."""
+with revision 0. Plan 3: node 0 and row 16 alone. Plan 4: sixteen nodes; row 17 and the places of node 1 are node 15's. Plan 5: plan 0
+with profile 1, panels that never sleep. Plan 6: plan 0 with profile 2."""
 
 STATES = ["Normal", "Standby", "Sleep"]
 PHASES = ["Open", "Sending", "Withdrawn", "Closing"]
@@ -208,7 +209,42 @@ master(dict(OPEN, hold0=2), answer(17, 9, 0, 1), LAST_NODE + "a wrong length", r
 master(dict(OPEN, hold0=2), answer(17, 3, 0, 1, 1), LAST_NODE + "its own wake bit", plan=4, hold0=None, cause0=WAKE, cause1=WAKE)
 master(dict(OPEN, cause1=WAKE), answer(17, 3, 0, 1), LAST_NODE + "held", plan=4, hold1=0, cause1=NEW)
 
-# Plan 4 to 8, then 11, 15, 16
+# Panels that never sleep (document 02, W-206): in Normal and Open all goes on as ever
+NEVER = "never sleeps: "
+master(dict(OPEN, ticks=LAST, hold0=9, hold1=10), TICK, NEVER + "tick", plan=5, ticks=0, hold0=10, hold1=None, cause1=AGED)
+master(dict(OPEN, **BOTH), answer(99, 2, 0, 1), NEVER + "ReqId not in the plan", refusal=12, plan=5)
+master(dict(OPEN, **BOTH), answer(18, 0), NEVER + "a master's row", refusal=12, plan=5)
+master(dict(OPEN, **BOTH), answer(16, 2, 0, 1, result=1), NEVER + "damaged", refusal=13, plan=5, hold0=None, cause0=DAMAGED)
+master(dict(OPEN, **BOTH), answer(17, 2, 0, 1), NEVER + "length too short", refusal=14, plan=5, hold1=None, cause1=DAMAGED)
+master(dict(OPEN, last16=1, cause0=WAKE), answer(16, 2, 0, 1), NEVER + "held, two lost", plan=5, lost=2, last16=0, hold0=0, cause0=NEW)
+master(dict(OPEN, **BOTH), answer(16, 2, 0), NEVER + "refusing", plan=5, last16=0, hold0=None, cause0=REFUSED)
+master(dict(OPEN, **BOTH), answer(16, 2, 0, 1, 1), NEVER + "an answer with the wake bit", plan=5, last16=0, **WOKEN)
+master(dict(OPEN, cause0=AGED, hold1=3), PULSE, NEVER + "pulse", plan=5, hold1=None, cause1=WAKE)
+master(dict(OPEN, permits=1, **BOTH), WAKE_ASK, NEVER + "own ask to wake", plan=5, **WOKEN)
+master(dict(OPEN, **BOTH), permission(1), NEVER + "own yes", plan=5, permits=1)
+master(dict(OPEN, permits=1, **BOTH), permission(0), NEVER + "own no", plan=5, permits=0)
+# 25 before 19 and 20; 17 as ever
+master(dict(OPEN, permits=1, **BOTH), SLEEP_ASK, NEVER + "sleep ask", refusal=25, plan=5)
+master(dict(OPEN, **BOTH), SLEEP_ASK, NEVER + "25 before 19", refusal=25, plan=5)
+master(dict(OPEN, permits=1, hold0=1), SLEEP_ASK, NEVER + "25 before 20, and names no node", refusal=25, plan=5)
+master(OPEN, SLEEP_ASK, NEVER + "25 before 19 and 20", refusal=25, plan=5)
+master(OPEN, send_result(1), NEVER + "sent", refusal=17, plan=5)
+master(dict(OPEN, permits=1, **BOTH), send_result(0), NEVER + "failed", refusal=17, plan=5)
+# 11: a state not Normal, a phase not Open
+for other in [STANDBY, POWER_ON, SENDING, WITHDRAWN, CLOSING]:
+    name = NEVER + (other["phase"] if other["state"] == "Normal" else other["state"])
+    ready = dict(other, permits=1, hold0=1, hold1=1)
+    for event, what in [(TICK, "tick"), (PULSE, "pulse"), (WAKE_ASK, "own ask to wake"), (permission(0), "own no"), (answer(16, 2), "answer"),
+                        (answer(16, 2, 4), "11 before 15"), (SLEEP_ASK, "11 before 25"), (send_result(1), "send result")]:
+        master(ready, event, name + ", " + what, refusal=11, plan=5)
+master(dict(OPEN, delay=1), TICK, NEVER + "a delay in Open", refusal=11, plan=5)
+master(dict(OPEN, hold0=11), SLEEP_ASK, NEVER + "age above W, 11 before 25", refusal=11, plan=5)
+master(dict(OPEN, hold0=1, cause0=AGED), SLEEP_ASK, NEVER + "cause of a held node, 11 before 25", refusal=11, plan=5)
+master(OPEN, answer(16, 2, 4, 1), NEVER + "count 4", refusal=15, plan=5)
+master(OPEN, SLEEP_ASK, "profile 2: 3 before 25", refusal=3, plan=6)
+master(STANDBY, TICK, "profile 2: 3 before 11", refusal=3, plan=6)
+
+# Plan 3 to 8, then 11, 15, 16
 master(OPEN, TICK, "revision 0", refusal=4, plan=2)
 master(dict(OPEN, hold0=11), TICK, "4 before 11", refusal=4, plan=2)
 master(dict(OPEN, hold0=11), TICK, "age above W", refusal=11)
@@ -381,7 +417,47 @@ node(AWAKE, ask(16), "polled, not heard", refusal=21)
 node(dict(AWAKE, heard=1, wake=1, count16=1), ask(16), "polled, heard", sent(0, 1, 1), wake=0, count16=2)
 node(dict(AWAKE, permits=1, count17=3), ask(17), "event-triggered, not heard", sent(1, 0, 3), me=1, count17=0)
 
-# Plan 4 to 8, then 11, 15, 16
+# Panels that never sleep (document 02, W-206): the error at E without sleeping, a wake bit and a permission that are only set
+SHOWS = dict(AWAKE, error=1, quiet=4)
+MIXED = dict(error=1, heard=1, quiet=3, count16=2, count17=3)
+node(dict(SHOWS, wake=1, heard=1, count16=2), CLOCK, NEVER + "clock: error off, quiet 0", plan=5, error=0, quiet=0)
+node(dict(AWAKE, quiet=2, permits=1), DARK, NEVER + "one short of E", plan=5, quiet=3)
+node(dict(AWAKE, quiet=3, permits=1, wake=1, heard=1, count17=2), DARK, NEVER + "at E error on, permitted, no Sleep", plan=5, quiet=4, error=1)
+node(dict(AWAKE, quiet=3), DARK, NEVER + "at E error on, not permitted", plan=5, quiet=4, error=1)
+node(dict(SHOWS, permits=1), DARK, NEVER + "quiet not above E, permitted, no Sleep", plan=5)
+node(dict(AWAKE, quiet=4, permits=1), DARK, NEVER + "error on again where quiet stood at E", plan=5, error=1)
+node(dict(AWAKE, permits=1, **MIXED), HEARD, NEVER + "pulse: nothing", plan=5)
+node(AWAKE, OWN_WAKE, NEVER + "own ask: wake bit only", plan=5, wake=1)
+node(SHOWS, OWN_WAKE, NEVER + "own ask while the error shows: wake bit only", plan=5, wake=1)
+node(dict(AWAKE, permits=1, **MIXED), OWN_WAKE, NEVER + "the same permitted, all else stays", plan=5, wake=1)
+node(dict(SHOWS, wake=1), OWN_WAKE, NEVER + "own ask, the wake bit 1 before", plan=5)
+node(dict(AWAKE, quiet=2), permit(1), NEVER + "yes", plan=5, permits=1)
+node(dict(SHOWS, wake=1, count16=1), permit(1), NEVER + "yes while the error shows: only set", plan=5, permits=1)
+node(dict(SHOWS, permits=1), permit(1), NEVER + "yes after a yes while the error shows", plan=5)
+node(dict(SHOWS, permits=1), permit(0), NEVER + "no while the error shows", plan=5, permits=0)
+node(dict(AWAKE, permits=1, wake=1, count16=3), request(16), NEVER + "its own row: sent", sent(1, 1, 3), plan=5, heard=1, wake=0, count16=0)
+node(SHOWS, request(17), NEVER + "another's row: heard", plan=5, heard=1)
+node(AWAKE, request(99), NEVER + "ReqId not in the plan", refusal=12, plan=5)
+node(AWAKE, ask(16), NEVER + "polled, not heard", refusal=21, plan=5)
+node(dict(SHOWS, heard=1, wake=1), ask(16), NEVER + "polled, heard", sent(0, 1, 0), plan=5, wake=0, count16=1)
+node(AWAKE, ask(16), NEVER + "another's row", refusal=12, plan=5, me=1)
+node(dict(AWAKE, count17=1), ask(17), NEVER + "event-triggered, not heard", sent(0, 0, 1), plan=5, me=1, count17=2)
+# 25: a sleep message
+node(AWAKE, MESSAGE, NEVER + "sleep message", refusal=25, plan=5)
+node(dict(AWAKE, permits=1, wake=1, **MIXED), MESSAGE, NEVER + "sleep message while the error shows", refusal=25, plan=5, me=1)
+# 11: a state not Normal, a sleep delay
+for other, name in [(ASLEEP, "Sleep"), (CALLED, "Standby"), (CALLER, "Standby as caller"), (dict(AWAKE, delay=0), "sleep delay 0"),
+                    (dict(AWAKE, delay=2), "sleep delay 2"), (dict(SHOWS, delay=1), "sleep delay while the error shows")]:
+    for event, what in [(CLOCK, "clock"), (DARK, "no clock"), (HEARD, "pulse"), (OWN_WAKE, "own ask"), (permit(1), "yes"),
+                        (MESSAGE, "11 before 25"), (request(16), "request"), (request(128), "11 before 15"), (ask(16), "ask to send")]:
+        node(other, event, NEVER + name + ", " + what, refusal=11, plan=5)
+node(dict(AWAKE, quiet=5), MESSAGE, NEVER + "quiet above E, 11 before 25", refusal=11, plan=5)
+node(AWAKE, MESSAGE, NEVER + "node number N, 11 before 25", refusal=11, plan=5, me=2)
+node(AWAKE, ask(128), NEVER + "ask to send ReqId 128", refusal=15, plan=5)
+node(AWAKE, MESSAGE, "profile 2: 3 before 25", refusal=3, plan=6)
+node(ASLEEP, DARK, "profile 2: 3 before 11", refusal=3, plan=6)
+
+# Plan 3 to 8, then 11, 15, 16
 node(AWAKE, DARK, "revision 0", refusal=4, plan=2)
 node(AWAKE, DARK, "4 before 11", refusal=4, plan=2, me=2)
 node(AWAKE, DARK, "node number N", refusal=11, me=2)
