@@ -1,15 +1,15 @@
 #!/usr/bin/env python3
 """Writes the lists of crates/batch_cases and what must be printed of each: stdin and stdout.
 
-Run at the repository's root. A list is a byte for the plan (0 right, 1 with revision 0), a byte for the start (0 power-on, 1 what the list
-before it left, 2 a state out of range) and six event records of 10 bytes. What is printed is worked out by hand from documents 01 and 02;
-nothing here calls the product or works a rule out.
+Run at the repository's root. A list is a byte for the plan (0 right, 1 with revision 0, 2 of panels that never sleep), a byte for the start
+(0 the plan's power-on, 1 what the list before it left, 2 a state out of range) and six event records of 10 bytes. What is printed is worked
+out by hand from documents 01 and 02; nothing here calls the product or works a rule out.
 
 The plan: two nodes; row 16 of node 0, length 2, with a sequence count; row 17 of node 1, length 3, without one; row 18 of the master; W 3, D 2,
 C 2. A line has what the call answers; the master's state, phase, `permits`, both nodes' permissions with age, the last count of row 16, the delay
 and the tick number; then the replies: refusal, node, command, lost. There are seven places, 9 in each field before the call."""
 
-RIGHT, REFUSED = 0, 1
+RIGHT, REFUSED, NEVER_SLEEPS = 0, 1, 2
 POWER_ON, GO_ON, OUT_OF_RANGE = 0, 1, 2
 stdin, stdout = [], []
 
@@ -69,6 +69,18 @@ case(GO_ON, [TICK, TICK, answer(16, 2, count=2), answer(17, 3), SLEEP, answer(16
      "Normal Withdrawn permits - 0 held 0 3 0 8", [DONE, ON, DONE, DONE, MESSAGE, DONE])
 case(GO_ON, [SENT, SLEEP, answer(17, 3, wake=1), TICK, FAILED, SLEEP],
      "Normal Open permits - 0 - 0 3 0 9", [DONE, "20 0 0 0", DONE, DONE, "17 0 0 0", "20 0 0 0"])
+# Panels that never sleep: Normal at power-on, 25 before 19 and 20, 17 as ever; the events after them still run.
+case(POWER_ON, [SLEEP, SENT, YES, answer(16, 2, count=1), answer(17, 3), SLEEP],
+     "Normal Open permits held 0 held 0 1 0 0", ["25 0 0 0", "17 0 0 0", DONE, DONE, DONE, "25 0 0 0"], plan=NEVER_SLEEPS)
+case(GO_ON, [TICK, TICK, answer(16, 2, count=3), PULSE, answer(17, 3, wake=1), SLEEP],
+     "Normal Open permits - 0 - 0 3 0 2", [DONE, DONE, "0 0 0 1", DONE, DONE, "25 0 0 0"], plan=NEVER_SLEEPS)
+case(GO_ON, [answer(16, 2), event(7), answer(16, 2, count=1, result=5), SLEEP, WAKE, TICK],
+     "Normal Open permits - 0 - 0 0 0 3", [DONE, "15 0 0 0", "13 0 0 0", "25 0 0 0", DONE, DONE], plan=NEVER_SLEEPS)
+# The same state under the plan of panels that sleep; what it leaves is out of range where they never do.
+case(GO_ON, [answer(16, 2, count=1), answer(17, 3), SLEEP, TICK, TICK, TICK],
+     "Normal Sending permits held 3 held 3 1 0 6", [DONE, DONE, MESSAGE, DONE, DONE, DONE])
+case(GO_ON, [TICK, answer(16, 2), event(7), SLEEP, PULSE, SENT],
+     "Normal Sending permits held 3 held 3 1 0 6", ["11 0 0 0"] * 6, plan=NEVER_SLEEPS)
 
 with open("crates/batch_cases/stdin", "wb") as file:
     file.write(b"".join(stdin))

@@ -2,12 +2,13 @@
 """Writes the drill's test data: the sets and scripts in crates/drills/data, crates/drills/args and crates/drills/stdout, and those of
 crates/drill.
 
-Run at the repository's root. Beside each move stands what it prints by document 01; the line's number is put before it.
+Run at the repository's root. Beside each move stands what it prints by documents 01 and 02; the line's number is put before it.
 Scripts ctc-n.m are the conformance tests of ISO 20794-5 that apply. Nothing here calls the product."""
 import sys
 
 sys.dont_write_bytecode = True
 from scripts import EVENT, MASTER, POLLED, Scripts, write
+from layout import mended
 
 DRILL = "crates/drill"
 drills = Scripts("crates/drills")
@@ -21,6 +22,12 @@ release_set("f", [10, 2, 3, 12, 5, 4, 2], [POLLED, EVENT], [(16, 0, 2, 1), (17, 
 # a clock stop at which a node can wake in Closing
 release_set("l", [10, 3, 3, 4, 5, 6, 1], [POLLED], [(16, 0, 2, 1)])
 release_set("sixteen", [10, 2, 3, 12, 5, 4, 2], [POLLED, EVENT] * 8, [(16 + i, i, 2, 1) for i in range(16)] + [(127, MASTER, 0, 0)])
+# panels that never sleep (W-206)
+release_set("truck", [10, 2, 3, 4, 5, 6, 1], [POLLED], [(16, 0, 2, 1)], profile=1)
+release_set("truck-two", [10, 2, 3, 12, 5, 4, 2], [POLLED, EVENT], [(16, 0, 2, 1), (17, 1, 2, 1), (18, MASTER, 2, 0)], profile=1)
+release_set("truck-quick", [1, 1, 1, 1, 1, 1, 1], [EVENT], [(16, 0, 0, 0)], profile=1)
+release_set("truck-sixteen", [10, 2, 3, 12, 5, 4, 2], [POLLED, EVENT] * 8, [(16 + i, i, 2, 1) for i in range(16)] + [(127, MASTER, 0, 0)], profile=1)
+sets["truck-refused"] = mended(sets["truck"][:5] + b"\2" + sets["truck"][6:])
 sets["short"] = sets["t"][:1023]
 sets["check"] = sets["t"][:511] + b"\0" + sets["t"][512:]
 
@@ -535,6 +542,101 @@ tick          | Z0 0 {Z} 0
 wake 7        | S0 0 {S} 0
 """.lstrip().format(**all_in))
 
+# W-206, panels that never sleep. Document 01's drill: Normal and the clock from the first line on; no sleep message is ever under way
+script("truck", "truck-document-01", """
+wake 0     | N0 1 N 0
+tick       | N0 1 N 0
+permit 0 1 | N0 1 N 0
+permit m 1 | N0 1 N 0
+req 16 ok  | N0 1 N 0
+sleep      | N0 1 N 25
+req 16 ok  | N0 1 N 0
+sleep      | N0 1 N 25
+sent ok    | N0 1 N 17
+tick       | N0 1 N 0
+tick       | N0 1 N 0
+tick       | N0 1 N 0
+""")
+
+# Each kind of move as the first one
+for number, (line, printed) in enumerate([("tick", 0), ("wake 0", 0), ("wake m", 0), ("permit 0 1", 0), ("permit m 1", 0), ("req 16 ok", 0),
+                                          ("req 16 bad", 13), ("req 17 ok", 12), ("send 0 16 ok", 21), ("sleep", 25), ("sent ok", 17),
+                                          ("sent fail", 17)]):
+    script("truck", "truck-first-%d" % (number + 1), "%s | N0 1 N %d" % (line, printed))
+raw("truck", "truck-odd-first", [(b"", "?"), (b"sleep", "N0 1 N 25")], last=b"")
+
+# 25 comes before own permission and nodes' permissions are looked at, and all of them do not help
+script("truck-two", "truck-sleep", """
+sleep         | N0 1 NN 25
+permit m 1    | N0 1 NN 0
+sleep         | N0 1 NN 25
+permit 0 1    | N0 1 NN 0
+permit 1 1    | N0 1 NN 0
+req 16 ok     | N0 1 NN 0
+sleep         | N0 1 NN 25
+req 17 ok     | N0 1 NN 0
+sleep         | N0 1 NN 25
+sent ok       | N0 1 NN 17
+sent fail     | N0 1 NN 17
+permit m 0    | N0 1 NN 0
+sleep         | N0 1 NN 25
+""")
+
+# Messages as in Normal
+script("truck-two", "truck-messages", """
+send 0 16 ok   | N0 1 NN 21
+send 1 17 ok   | N0 1 NN 0
+send 1 16 ok   | N0 1 NN 12
+send 0 18 ok   | N0 1 NN 12
+req 19 ok      | N0 1 NN 12
+req 18 ok      | N0 1 NN 0
+send 0 16 bad  | N0 1 NN 13
+send 0 16 lost | N0 1 NN 0
+req 16 bad     | N0 1 NN 13
+req 17 lost    | N0 1 NN 0
+wake 1         | N0 1 NN 0
+req 17 ok      | N0 1 NN 0
+wake 0         | N0 1 NN 0
+wake m         | N0 1 NN 0
+wake 0         | N0 1 NN 0
+wake 2         | ?
+tick           | N0 1 NN 0
+""")
+
+# Ticks beyond every time, permitted and not, with no message at all
+script("truck", "truck-ticks", "permit 0 1 | N0 1 N 0\npermit m 1 | N0 1 N 0\n" + "tick | N0 1 N 0\n" * 40 + "wake 0 | N0 1 N 0\n" +
+       "tick | N0 1 N 0\n" * 12 + "permit 0 0 | N0 1 N 0\n" + "tick | N0 1 N 0\n" * 12 + "permit 0 1 | N0 1 N 0\nsleep | N0 1 N 25")
+script("truck-quick", "truck-quick", """
+tick         | N0 1 N 0
+send 0 16 ok | N0 1 N 0
+permit 0 1   | N0 1 N 0
+tick         | N0 1 N 0
+tick         | N0 1 N 0
+wake 0       | N0 1 N 0
+tick         | N0 1 N 0
+sleep        | N0 1 N 25
+sent ok      | N0 1 N 17
+tick         | N0 1 N 0
+tick         | N0 1 N 0
+""")
+
+# Sixteen nodes
+script("truck-sixteen", "truck-sixteen", """
+sleep         | N0 1 {N} 25
+wake 15       | N0 1 {N} 0
+wake 16       | ?
+send 14 30 ok | N0 1 {N} 21
+req 127 ok    | N0 1 {N} 0
+send 14 30 ok | N0 1 {N} 0
+permit m 1    | N0 1 {N} 0
+""".format(**all_in) + "".join("permit %d 1 | N0 1 %s 0\nreq %d ok | N0 1 %s 0\n" % (i, all_in["N"], 16 + i, all_in["N"]) for i in reversed(range(16))) + """
+sleep         | N0 1 {N} 25
+sent ok       | N0 1 {N} 17
+tick          | N0 1 {N} 0
+tick          | N0 1 {N} 0
+tick          | N0 1 {N} 0
+""".lstrip().format(**all_in))
+
 # Lines that are no moves, and the last without its LF
 STILL, BAD = "Z0 0 Z 0", "?"
 odd = [b"", b" ", b"tick ", b" tick", b"tick\r", b"\rtick", b"Tick", b"tick\t", b"tick tick", b"ticks", b"wake", b"wake ", b"wake 1", b"wake 00", b"wake 01"]
@@ -548,7 +650,7 @@ raw("t", "one-empty-line", [(b"", BAD)])
 raw("t", "carriage-returns", [(b"tick\r", BAD)] * 3)
 
 # A refused set, and one that is missing: nothing but its number
-for name, refusal in [("short", 1), ("check", 2), ("missing", 1)]:
+for name, refusal in [("short", 1), ("check", 2), ("truck-refused", 3), ("missing", 1)]:
     drills.refused(name, "document-01", refusal)
 
 drills.store()

@@ -21,9 +21,9 @@ class Scripts:
     def __init__(self, folder):
         self.folder, self.sets, self.scripts = folder, {}, []
 
-    def release_set(self, name, times, methods, rows):
+    def release_set(self, name, times, methods, rows, profile=0):
         nodes = [(0x41 + i, 1, method) for i, method in enumerate(methods)]
-        self.sets[name] = plan_set(7, times, nodes, rows)
+        self.sets[name] = plan_set(7, times, nodes, rows, profile)
 
     def raw(self, name, script, lines, last=b"\n", after=""):
         """A script of pairs, the bytes of a line and what is printed for it; and what is printed after them."""

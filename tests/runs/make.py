@@ -2,9 +2,10 @@
 """Writes the lists of moves of crates/run_cases and what must be printed of each: data, args and stdout.
 
 Run at the repository's root. A list is moves as bytes, 16 for each (crates/runs/src/lib.rt has the table). What is printed is
-worked out by hand from document 01; nothing here calls the product or works a rule out.
+worked out by hand from documents 01 and 02; nothing here calls the product or works a rule out.
 
-The plan: two nodes, each with a row, ReqId 1 and 2; W 3, D 2, S 2, E 1, R 2, P 3, C 1."""
+The plan: two nodes, each with a row, ReqId 1 and 2; W 3, D 2, S 2, E 1, R 2, P 3, C 1. Of each list is printed what it comes to under the
+plan, and in a line more under the same plan of panels that never sleep (W-206), where no machine leaves Normal."""
 
 import sys
 
@@ -20,6 +21,7 @@ def case(name, moves, refusal, machines):
         file.write(b"".join(moves))
     args.append(name)
     printed.append("%s %d %s" % (name, refusal, machines))
+    printed.append("%s %d %s" % (name, refusal, AWAKE_FOR_EVER))
 
 
 WAKE = move(1)
@@ -29,7 +31,7 @@ PERMITTED = [WAKE, TICK, move(3, node=0, value=1), move(3, node=1, value=1), mov
 AWAKE = PERMITTED + [move(5, value=1), move(5, value=2), SLEEP_ASK]
 # Node 0 calls and nobody hears; its second pulse, at the R-th tick, wakes node 1.
 CALL, OFF = move(1, hearing=NONE, master=0), move(0, master=0)
-ASLEEP = "Sleep Open Sleep Sleep"
+ASLEEP, AWAKE_FOR_EVER = "Sleep Open Sleep Sleep", "Normal Open Normal Normal"
 
 case("none", [], 0, ASLEEP)
 case("sending", AWAKE, 0, "Normal Sending Normal Normal")

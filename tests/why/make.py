@@ -1,5 +1,5 @@
 #!/usr/bin/env python3
-"""Writes the cases of the program why (W-205): sets and scripts in tests/why/data, tests/why/args and tests/why/stdout.
+"""Writes the cases of the program why (W-205, W-206): sets and scripts in tests/why/data, tests/why/args and tests/why/stdout.
 
 Run at the repository's root. Beside each move stands what it prints by document 01; the words after it in a case are those of the line
 why by document 02. Nothing here calls the product."""
@@ -30,7 +30,12 @@ cases.release_set("two-ticks", [2, 2, 3, 12, 5, 4, 1], [POLLED, EVENT], TWO)
 cases.release_set("three-ticks", [3, 2, 3, 12, 5, 4, 1], [POLLED, EVENT], TWO)
 # a clock start above R, so that a caller's second pulse comes before the clock
 cases.release_set("late-clock", [10, 2, 3, 12, 2, 4, 4], [POLLED, EVENT], TWO)
-cases.release_set("sixteen", [10, 2, 3, 12, 5, 4, 1], [POLLED, EVENT] * 8, [(16 + i, i, 2, 1) for i in range(16)] + [(127, MASTER, 0, 0)])
+SIXTEEN = [(16 + i, i, 2, 1) for i in range(16)] + [(127, MASTER, 0, 0)]
+cases.release_set("sixteen", [10, 2, 3, 12, 5, 4, 1], [POLLED, EVENT] * 8, SIXTEEN)
+# panels that never sleep
+cases.release_set("truck", [2, 2, 3, 4, 5, 6, 1], [POLLED], ONE, profile=1)
+cases.release_set("truck-two", [10, 2, 3, 12, 5, 4, 1], [POLLED, EVENT], TWO, profile=1)
+cases.release_set("truck-sixteen", [10, 2, 3, 12, 5, 4, 1], [POLLED, EVENT] * 8, SIXTEEN, profile=1)
 
 # Document 01's own drill, after each of its moves
 TWELVE = """
@@ -251,6 +256,33 @@ why("sixteen", "all-aged", AGED_ALL, "0 aged")
 why("sixteen", "all-aged-but-15", AGED_ALL + held(range(15)), "15 aged")
 why("sixteen", "all-aged-woken", AGED_ALL + held([3]) + "wake m | N0 1 %s 0\n" % N + held(range(3)), "3 wake")
 why("sixteen", "all-aged-woken-above", AGED_ALL + held([3]) + "wake m | N0 1 %s 0\n" % N + held(range(4)), "4 aged")
+
+# W-206: of panels that never sleep the profile is the reason, before all others and from power-on on
+cases.raw("truck", "truck-no-move", [], after="why profile\n")
+cases.raw("truck", "truck-no-moves", [(b"", "?"), (b"why", "?")], last=b"", after="why profile\n")
+MOVES = [line.split("|")[0].strip() for line in TWELVE.strip().split("\n")]
+TRUCK_TWELVE = ["%s | N0 1 N %d" % line for line in zip(MOVES, [0, 0, 0, 0, 0, 25, 0, 25, 17, 0, 0, 0])]
+for k in range(len(TRUCK_TWELVE)):
+    why("truck", "truck-document-01-%d" % (k + 1), "\n".join(TRUCK_TWELVE[:k + 1]), "profile")
+TRUCK_UP = "permit 0 1 | N0 1 N 0\npermit m 1 | N0 1 N 0\n"
+TRUCK_READY = TRUCK_UP + "req 16 ok | N0 1 N 0\n"
+why("truck", "truck-new", TRUCK_UP, "profile")
+why("truck", "truck-ready", TRUCK_READY, "profile")
+why("truck", "truck-own", TRUCK_READY + "permit m 0 | N0 1 N 0", "profile")
+why("truck", "truck-asked", TRUCK_READY + "sleep | N0 1 N 25", "profile")
+why("truck", "truck-sent", TRUCK_READY + "sleep | N0 1 N 25\nsent ok | N0 1 N 17", "profile")
+for case, (moves, _) in CAUSES.items():
+    why("truck", "truck-" + case, TRUCK_READY + moves, "profile")
+why("truck-two", "truck-two-ready", """
+permit 0 1   | N0 1 NN 0
+permit 1 1   | N0 1 NN 0
+permit m 1   | N0 1 NN 0
+req 16 ok    | N0 1 NN 0
+send 1 17 ok | N0 1 NN 0
+""", "profile")
+why("truck-two", "truck-two-damaged", "req 17 bad | N0 1 NN 13", "profile")
+why("truck-sixteen", "truck-all-new", PERMITTED, "profile")
+why("truck-sixteen", "truck-all-ready", PERMITTED + held(range(16)), "profile")
 
 # A refused set, and one that is missing: nothing but its number, no line why
 TIMES, NODES = [10, 2, 3, 4, 5, 6, 1], [(0x41, 1, 1)]
