@@ -26,16 +26,16 @@ enum { READ, WRITE, MASTER_POWER_ON, NODE_POWER_ON, MASTER_STEP, NODE_STEP, MAST
 static const char *const export_names[EXPORTS] = {"cxpi_read",        "cxpi_write",     "cxpi_master_power_on", "cxpi_node_power_on",
                                                   "cxpi_master_step", "cxpi_node_step", "cxpi_master_batch",    "cxpi_master_why"};
 
-enum { NUMBERS = 23, OTHER_NUMBER = NUMBERS };
+enum { NUMBERS = 26, OTHER_NUMBER = NUMBERS };
 
 /* The numbers that include/cxpi.h names for each export; -1 ends a list. */
 static const int expected_numbers[EXPORTS][NUMBERS] = {
     {0, 1, 2, 3, 4, 5, 6, 7, 8, 9, 10, -1},
     {0, 3, 4, 5, 6, 7, 8, 10, -1},
-    {0, 10, -1},
-    {0, 10, -1},
-    {0, 3, 4, 5, 6, 7, 8, 10, 11, 12, 13, 14, 15, 16, 17, 18, 19, 20, -1},
-    {0, 3, 4, 5, 6, 7, 8, 10, 11, 12, 15, 16, 21, -1},
+    {0, 3, 4, 5, 6, 7, 8, 10, -1},
+    {0, 3, 4, 5, 6, 7, 8, 10, -1},
+    {0, 3, 4, 5, 6, 7, 8, 10, 11, 12, 13, 14, 15, 16, 17, 18, 19, 20, 25, -1},
+    {0, 3, 4, 5, 6, 7, 8, 10, 11, 12, 15, 16, 21, 25, -1},
     {0, 22, -1},
     {0, 3, 4, 5, 6, 7, 8, 10, 11, 16, -1},
 };
@@ -46,8 +46,9 @@ static uint64_t named[REFERENCE_NODES]; /* by 20 */
 static uint64_t commands[2][4];         /* of the master, of a node */
 static uint64_t lost[4];
 static uint64_t round_trips;
+static uint64_t power_ons[2]; /* by profile */
 static uint64_t batch_events; /* in lists that were not refused */
-static uint64_t reasons[5];
+static uint64_t reasons[6];
 static uint64_t explained[REFERENCE_NODES]; /* nodes that were the reason */
 static uint64_t causes[5];                  /* of these */
 static uint64_t differences;
@@ -326,9 +327,10 @@ static void compare_a_set(void) {
     }
 }
 
-static void compare_a_plan(void) {
-    uint8_t plan[LENT_ROOM] = {0};
+/* The packed plan, littered, broken or of another length at times; gives its length. */
+static size_t lent_plan_of_set(uint8_t *plan) {
     size_t length = CXPI_PLAN_LENGTH;
+    memset(plan, 0, LENT_ROOM);
     memcpy(plan, packed_plan, CXPI_PLAN_LENGTH);
     if (percent(50)) {
         litter_plan(&set_plan, plan);
@@ -344,6 +346,12 @@ static void compare_a_plan(void) {
     if (percent(4)) {
         length = percent(50) ? CXPI_PLAN_LENGTH - 1 + 2 * below(2) : below(1000);
     }
+    return length;
+}
+
+static void compare_a_plan(void) {
+    static uint8_t plan[LENT_ROOM];
+    size_t length = lent_plan_of_set(plan);
     compare_write(plan, length, random_room(right_length));
 }
 
@@ -359,24 +367,36 @@ static void compare_sets(uint64_t sets) {
 
 /* Power-on */
 
+enum { POWER_ONS = 4000 };
+
+typedef uint32_t power_on(const uint8_t *plan, size_t plan_length, uint8_t *state, size_t state_length);
+
 static lent subject_state, reference_state;
 
-static void compare_power_on(int export, uint32_t (*subject)(uint8_t *, size_t), uint32_t (*reference)(uint8_t *, size_t),
-                             size_t room) {
+static void compare_power_on(int export, power_on *subject, power_on *reference, size_t needed) {
+    static uint8_t plan[LENT_ROOM];
+    size_t length = lent_plan_of_set(plan);
+    size_t room = random_room(needed);
+    lent_fill(&subject_plan, plan, length);
     lent_paint(&subject_state, room);
+    reference_plan_bytes = subject_plan;
     reference_state = subject_state;
-    uint32_t got = subject(lent_bytes(&subject_state), room);
-    uint32_t wanted = reference(lent_bytes(&reference_state), room);
+    uint32_t got = subject(lent_bytes(&subject_plan), length, lent_bytes(&subject_state), room);
+    uint32_t wanted = reference(lent_bytes(&reference_plan_bytes), length, lent_bytes(&reference_state), room);
     count_result(export, wanted);
-    if (got != wanted || !lent_same(&subject_state, &reference_state)) {
+    if (wanted == CXPI_DONE) {
+        power_ons[plan[CXPI_PLAN_PROFILE_AT]]++;
+    }
+    if (got != wanted || !lent_same(&subject_plan, &reference_plan_bytes) || !lent_same(&subject_state, &reference_state)) {
         differ(export, got, wanted);
     }
 }
 
 static void compare_power_ons(void) {
-    for (size_t room = 0; room <= 600; room++) {
-        compare_power_on(MASTER_POWER_ON, cxpi_master_power_on, reference_cxpi_master_power_on, room);
-        compare_power_on(NODE_POWER_ON, cxpi_node_power_on, reference_cxpi_node_power_on, room);
+    for (size_t made = 0; made < POWER_ONS; made++) {
+        next_right_set();
+        compare_power_on(MASTER_POWER_ON, cxpi_master_power_on, reference_cxpi_master_power_on, CXPI_MASTER_LENGTH);
+        compare_power_on(NODE_POWER_ON, cxpi_node_power_on, reference_cxpi_node_power_on, CXPI_NODE_LENGTH);
     }
 }
 
@@ -421,13 +441,19 @@ static uint32_t up_to(uint32_t limit) {
     return percent(25) ? limit : percent(25) ? 0 : below(limit + 1);
 }
 
+/* Whether a state is to be one of panels that never sleep; where limits may be passed it is so only at times. */
+static bool never_sleeps(const reference_plan *plan, uint32_t beyond) {
+    return plan->profile == 1 && (beyond == 0 || percent(50));
+}
+
 /* Any master's state in range; beyond is 0, or 1 to let each limit be passed by one. */
 static void random_master(const reference_plan *plan, uint8_t *state, uint32_t beyond) {
+    bool awake = never_sleeps(plan, beyond);
     bool ready = percent(30); /* for a sleep ask, but for one node at times, so that 20 names any */
     uint32_t held_share = ready || percent(20) ? 100 : below(101);
     memset(state, 0, CXPI_MASTER_LENGTH);
-    state[0] = (uint8_t)(ready || percent(50) ? CXPI_NORMAL : below(3));
-    state[1] = (uint8_t)(state[0] == CXPI_NORMAL && !ready ? below(4) : CXPI_OPEN);
+    state[0] = (uint8_t)(awake || ready || percent(50) ? CXPI_NORMAL : below(3));
+    state[1] = (uint8_t)(state[0] == CXPI_NORMAL && !awake && !ready ? below(4) : CXPI_OPEN);
     state[2] = ready || percent(60);
     if (state[0] == CXPI_STANDBY) {
         put_two(state + 3, up_to(plan->times.start - 1u + beyond));
@@ -461,13 +487,14 @@ static void random_master(const reference_plan *plan, uint8_t *state, uint32_t b
 }
 
 static void random_node(const reference_plan *plan, uint8_t *state, uint32_t beyond) {
+    bool awake = never_sleeps(plan, beyond);
     memset(state, 0, CXPI_NODE_LENGTH);
-    state[0] = (uint8_t)below(3);
+    state[0] = (uint8_t)(awake ? CXPI_NORMAL : below(3));
     for (size_t flag = 1; flag <= 4; flag++) {
         state[flag] = (uint8_t)below(2);
     }
     put_two(state + 6, up_to(plan->times.quiet + beyond));
-    if (percent(40)) {
+    if (!awake && percent(40)) {
         state[8] = 1;
         put_two(state + 9, up_to(plan->times.sleep - 1u + beyond));
     }
@@ -482,9 +509,9 @@ static void random_node(const reference_plan *plan, uint8_t *state, uint32_t bey
 
 static void start_network(network *started) {
     started->plan = &plans[below(PLANS)];
-    reference_cxpi_master_power_on(started->master, CXPI_MASTER_LENGTH);
+    reference_cxpi_master_power_on(started->plan->bytes, CXPI_PLAN_LENGTH, started->master, CXPI_MASTER_LENGTH);
     for (size_t number = 0; number < REFERENCE_NODES; number++) {
-        reference_cxpi_node_power_on(started->nodes[number], CXPI_NODE_LENGTH);
+        reference_cxpi_node_power_on(started->plan->bytes, CXPI_PLAN_LENGTH, started->nodes[number], CXPI_NODE_LENGTH);
     }
     if (percent(30)) {
         random_master(&started->plan->record, started->master, 0);
@@ -892,6 +919,7 @@ static bool print_table(bool sets, bool steps) {
         bool run = export == READ || export == WRITE ? sets : export >= MASTER_STEP ? steps : true;
         all = (!run || print_results(export)) && all;
     }
+    all = print_counts("power-ons by profile", power_ons, 2) && all;
     if (sets) {
         all = print_counts("sets of 1,024 and 1,536", lengths, 2) && all;
         all = print_counts("round trips", &round_trips, 1) && all;
@@ -901,7 +929,7 @@ static bool print_table(bool sets, bool steps) {
         all = print_counts("master's commands", commands[0], 4) && all;
         all = print_counts("lost 0 to 3", lost, 4) && all;
         all = print_counts("node's commands", commands[1], 3) && all;
-        all = print_counts("reasons", reasons, 5) && all;
+        all = print_counts("reasons", reasons, 6) && all;
         all = print_counts("nodes explained", explained, REFERENCE_NODES) && all;
         all = print_counts("their causes", causes, 5) && all;
     }

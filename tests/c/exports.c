@@ -1,4 +1,4 @@
-/* Tests each export on right and wrong input, by expectations written by hand from document 01 and include/cxpi.h.
+/* Tests each export on right and wrong input, by expectations written by hand from documents 01 and 02 and include/cxpi.h.
  *
  * Every buffer is lent between guard bytes. Each case says what the call returns and which bytes it changes; all others must stay.
  *
@@ -419,24 +419,51 @@ static void test_two_blocks(void) {
 
 /* Power-on */
 
-static void expect_power_on(const char *what, bool master, size_t room, uint32_t result, const uint8_t *state) {
-    size_t length = master ? CXPI_MASTER_LENGTH : CXPI_NODE_LENGTH;
+/* Under a plan, into a state buffer of that length; refused, it leaves the buffer as it was. At power-on the machine is in that state. */
+static void expect_power_on(const char *what, const uint8_t *plan, size_t length, bool master, size_t room, uint32_t result,
+                            uint8_t state) {
+    lent_fill(&lent_plan, plan, length);
     lent_paint(&lent_state, room);
+    wanted_plan = lent_plan;
     wanted_state = lent_state;
     if (result == 0) {
-        memcpy(lent_bytes(&wanted_state), state, length);
+        memset(lent_bytes(&wanted_state), 0, master ? CXPI_MASTER_LENGTH : CXPI_NODE_LENGTH);
+        lent_bytes(&wanted_state)[0] = state;
+        if (master) {
+            memset(lent_bytes(&wanted_state) + 57, 4, 128);
+        }
     }
-    uint32_t got = master ? cxpi_master_power_on(lent_bytes(&lent_state), room) : cxpi_node_power_on(lent_bytes(&lent_state), room);
-    check(got == result && lent_same(&lent_state, &wanted_state), what);
+    uint32_t got = master ? cxpi_master_power_on(lent_bytes(&lent_plan), length, lent_bytes(&lent_state), room)
+                          : cxpi_node_power_on(lent_bytes(&lent_plan), length, lent_bytes(&lent_state), room);
+    check(got == result && lent_same(&lent_plan, &wanted_plan) && lent_same(&lent_state, &wanted_state), what);
 }
 
+/* Sleep, or Normal where the plan is of panels that never sleep; all else the same. */
 static void test_power_on(void) {
-    uint8_t master[CXPI_MASTER_LENGTH] = {2};
-    uint8_t node[CXPI_NODE_LENGTH] = {2};
-    memset(master + 57, 4, 128);
-    for (size_t room = 0; room < 250; room++) {
-        expect_power_on("master", true, room, room < CXPI_MASTER_LENGTH ? 10 : 0, master);
-        expect_power_on("node", false, room, room < CXPI_NODE_LENGTH ? 10 : 0, node);
+    static uint8_t plan[LENT_ROOM];
+    memcpy(plan, plan_t, sizeof plan_t);
+    memset(plan + 23, 0xEE, 60); /* unused places */
+    for (uint8_t profile = 0; profile < 2; profile++) {
+        uint8_t state = profile == 1 ? 0 : 2;
+        plan[CXPI_PLAN_PROFILE_AT] = profile;
+        for (size_t room = 0; room < 250; room++) {
+            expect_power_on("master", plan, CXPI_PLAN_LENGTH, true, room, room < CXPI_MASTER_LENGTH ? 10 : 0, state);
+            expect_power_on("node", plan, CXPI_PLAN_LENGTH, false, room, room < CXPI_NODE_LENGTH ? 10 : 0, state);
+        }
+        for (size_t length = 0; length <= 1200; length++) {
+            if (length != CXPI_PLAN_LENGTH) {
+                expect_power_on("master, another length of a plan", plan, length, true, 250, 4, 0);
+                expect_power_on("node, another length of a plan before 10", plan, length, false, 0, 4, 0);
+            }
+        }
+    }
+    for (size_t place = 0; place < BROKEN_PLANS; place++) {
+        const broken_plan *broken = &broken_plans[place];
+        break_plan(broken, plan);
+        for (size_t master = 0; master < 2; master++) {
+            expect_power_on(broken->what, plan, CXPI_PLAN_LENGTH, master, 250, broken->refusal, 0);
+            expect_power_on("3 to 8 before 10", plan, CXPI_PLAN_LENGTH, master, 100, broken->refusal, 0);
+        }
     }
     end_group("power-on");
 }
@@ -445,11 +472,15 @@ static void test_power_on(void) {
  * master's. Its times are W 10, D 2, S 3, E 4, R 5, P 6, C 2. */
 
 static uint8_t plan_u[CXPI_PLAN_LENGTH];
+static uint8_t truck_u[CXPI_PLAN_LENGTH]; /* the same of panels that never sleep */
+static const uint8_t *stepped_plan = plan_u;
 
 static void make_plan_u(void) {
     memcpy(plan_u, plan_t, sizeof plan_u);
     apply(EDITS({2, 2}, {4, 3}, {18, 2}, {23, 0x42}, {24, 2}, {25, 0}), plan_u);
     apply(EDITS({87, 17}, {88, 1}, {89, 0}, {90, 0}, {91, 32}, {92, 255}, {93, 1}, {94, 1}), plan_u);
+    memcpy(truck_u, plan_u, sizeof truck_u);
+    truck_u[CXPI_PLAN_PROFILE_AT] = 1;
 }
 
 /* A step as it is lent; the state's machine is the master, or a node of that number. */
@@ -547,7 +578,7 @@ static const uint8_t *node_with(const edit *before) {
 }
 
 static call master_call(const edit *before, const uint8_t *event, size_t event_length) {
-    return (call){.plan = plan_u,
+    return (call){.plan = stepped_plan,
                   .plan_length = CXPI_PLAN_LENGTH,
                   .master = true,
                   .state = master_with(before),
@@ -558,7 +589,7 @@ static call master_call(const edit *before, const uint8_t *event, size_t event_l
 }
 
 static call node_call(uint8_t number, const edit *before, const uint8_t *event, size_t event_length) {
-    return (call){.plan = plan_u,
+    return (call){.plan = stepped_plan,
                   .plan_length = CXPI_PLAN_LENGTH,
                   .number = number,
                   .state = node_with(before),
@@ -850,7 +881,7 @@ static void test_reasons_of_sixteen(void) {
     end_group("why: sixteen nodes");
 }
 
-/* The order of judging: 4 to 8, 10, 11, 16, and other lengths of plan, state and reply buffer. */
+/* The order of judging: 3 to 8, 10, 11, 16, and other lengths of plan, state and reply buffer. */
 static void test_reason_order(void) {
     uint8_t plan[CXPI_PLAN_LENGTH];
     static uint8_t bytes[LENT_ROOM];
@@ -861,9 +892,9 @@ static void test_reason_order(void) {
         made.plan = plan;
         expect_why(broken_plans[place].what, &made, broken_plans[place].refusal, 0, 0, 0);
         made.state_length = 0;
-        expect_why("4 to 8 before 11", &made, broken_plans[place].refusal, 0, 0, 0);
+        expect_why("3 to 8 before 11", &made, broken_plans[place].refusal, 0, 0, 0);
         made.reply_length = 2;
-        expect_why("4 to 8 before 10", &made, broken_plans[place].refusal, 0, 0, 0);
+        expect_why("3 to 8 before 10", &made, broken_plans[place].refusal, 0, 0, 0);
     }
     memcpy(bytes, plan_u, sizeof plan_u);
     for (size_t length = 0; length <= 1200; length++) {
@@ -1130,7 +1161,114 @@ static void test_node_others(void) {
     end_group("node: other events");
 }
 
-/* The order of judging a step: 4 to 8, 10, 11, 15, and wrong lengths of plan, state and reply buffer. */
+/* Panels that never sleep (W-206) */
+
+static void test_never_sleeping_master(void) {
+    const edit *ready = EDITS({M_OWN, 1}, {M_HELD_0, 1}, {M_AGE_0, 10}, {M_HELD_1, 1});
+    stepped_plan = truck_u;
+    master_does("tick", ready, TICK, EDITS({M_TICK, 1}, {M_HELD_0, 0}, {M_AGE_0, 0}, {M_CAUSE_0, 2}, {M_AGE_1, 1}), 0, 0);
+    master_does("held", EDITS({M_COUNTS + 16, 1}), ANSWER(16, 0, 2, 0, 1, 0), EDITS({M_HELD_0, 1}, {M_COUNTS + 16, 0}), 0, 2);
+    master_does("refused", ready, ANSWER(17, 0, 0, 0, 0, 0), EDITS({M_HELD_1, 0}, {M_CAUSE_1, 1}), 0, 0);
+    master_does("wake bit", ready, ANSWER(17, 0, 0, 0, 1, 1),
+                EDITS({M_HELD_0, 0}, {M_AGE_0, 0}, {M_HELD_1, 0}, {M_CAUSE_0, 4}, {M_CAUSE_1, 4}), 0, 0);
+    master_drops("damaged", ready, ANSWER(17, 1, 0, 0, 1, 0), 13, EDITS({M_HELD_1, 0}, {M_CAUSE_1, 3}));
+    master_drops("wrong length", ready, ANSWER(17, 0, 1, 0, 1, 0), 14, EDITS({M_HELD_1, 0}, {M_CAUSE_1, 3}));
+    master_refuses("a master's row", ready, ANSWER(32, 0, 1, 0, 1, 0), 12);
+    for (uint8_t kind = 2; kind <= 3; kind++) {
+        master_does("wake-up", ready, BYTES(kind),
+                    EDITS({M_HELD_0, 0}, {M_AGE_0, 0}, {M_HELD_1, 0}, {M_CAUSE_0, 4}, {M_CAUSE_1, 4}), 0, 0);
+    }
+    master_does("permission no", ready, PERMIT(0), EDITS({M_OWN, 0}), 0, 0);
+    master_does("permission yes", NONE, PERMIT(1), EDITS({M_OWN, 1}), 0, 0);
+    master_refuses("sleep ask", ready, SLEEP, 25);
+    master_refuses("25 before 19", EDITS({M_HELD_0, 1}, {M_HELD_1, 1}), SLEEP, 25);
+    master_refuses("25 before 20", EDITS({M_OWN, 1}, {M_HELD_0, 1}), SLEEP, 25);
+    master_refuses("sent", ready, RESULT(1), 17);
+    master_refuses("failed", NONE, RESULT(0), 17);
+    for (uint8_t wrong = 1; wrong <= 3; wrong++) {
+        master_refuses("phase, 11 before 25", EDITS({M_PHASE, wrong}), SLEEP, 11);
+        master_refuses("phase, 11 before 15", EDITS({M_PHASE, wrong}), PERMIT(2), 11);
+        master_refuses("phase, send result", EDITS({M_PHASE, wrong}), RESULT(1), 11);
+        master_refuses("state, 11 before 16", EDITS({M_STATE, wrong}), SLEEP, 11);
+    }
+    master_refuses("15", NONE, PERMIT(2), 15);
+    for (unsigned value = 0; value < 256; value++) {
+        uint8_t byte = (uint8_t)value;
+        master_state_is("state", value == 0, EDITS({M_STATE, byte}));
+        master_state_is("phase", value == 0, EDITS({M_PHASE, byte}));
+        master_state_is("delay", value == 0, EDITS({M_DELAY, byte}));
+        master_state_is("phase in Standby", false, EDITS({M_STATE, 1}, {M_PHASE, byte}));
+        master_state_is("delay in Closing", false, EDITS({M_PHASE, 3}, {M_DELAY, byte}));
+        master_state_is("own permission", value <= 1, EDITS({M_OWN, byte}));
+        master_state_is("age of one held", value <= 10, EDITS({M_HELD_0, 1}, {M_AGE_0, byte}));
+        master_state_is("cause", value <= 4, EDITS({M_CAUSE_0, byte}));
+        master_state_is("last count", value <= 4, EDITS({M_COUNTS + 16, byte}));
+    }
+    stepped_plan = plan_u;
+    end_group("never sleeps: master");
+}
+
+/* The profile is the reason in every state in range. */
+static void test_reason_of_profile(void) {
+    stepped_plan = truck_u;
+    master_says("ready", EDITS({M_OWN, 1}, {M_HELD_0, 1}, {M_HELD_1, 1}), 5, 0, 0);
+    master_says("before own", EDITS({M_HELD_0, 1}, {M_HELD_1, 1}), 5, 0, 0);
+    for (uint8_t cause = 0; cause <= 4; cause++) {
+        master_says("before nodes", EDITS({M_OWN, 1}, {M_HELD_0, 1}, {M_CAUSE_1, cause}), 5, 0, 0);
+    }
+    master_says_nothing("Sending", EDITS({M_PHASE, 1}), 11);
+    master_says_nothing("Withdrawn", EDITS({M_PHASE, 2}), 11);
+    master_says_nothing("Closing", EDITS({M_PHASE, 3}), 11);
+    master_says_nothing("Standby, 11 before 16", EDITS({M_STATE, 1}), 11);
+    master_says_nothing("Sleep, 11 before 16", EDITS({M_STATE, 2}), 11);
+    stepped_plan = plan_u;
+    end_group("never sleeps: why");
+}
+
+static void test_never_sleeping_node(void) {
+    const edit *shows = EDITS({N_ERROR, 1}, {N_QUIET, 4}, {N_HEARD, 1}, {N_COUNTS + 16, 2});
+    stepped_plan = truck_u;
+    node_does("clock", shows, CLOCK, EDITS({N_ERROR, 0}, {N_QUIET, 0}), 0);
+    node_does("no clock", EDITS({N_PERMISSION, 1}), NO_CLOCK, EDITS({N_QUIET, 1}), 0);
+    node_does("quiet reaches E, permitted", EDITS({N_PERMISSION, 1}, {N_WAKE, 1}, {N_QUIET, 3}), NO_CLOCK,
+              EDITS({N_QUIET, 4}, {N_ERROR, 1}), 0);
+    node_does("quiet stands at E, permitted", EDITS({N_PERMISSION, 1}, {N_QUIET, 4}), NO_CLOCK, EDITS({N_ERROR, 1}), 0);
+    node_does("error stands, permitted", EDITS({N_PERMISSION, 1}, {N_QUIET, 4}, {N_ERROR, 1}), NO_CLOCK, NONE, 0);
+    node_does("pulse", shows, NODE_PULSE, NONE, 0);
+    node_does("wake", NONE, NODE_WAKE, EDITS({N_WAKE, 1}), 0);
+    node_does("wake, error shows", shows, NODE_WAKE, EDITS({N_WAKE, 1}), 0);
+    node_does("permission yes", NONE, NODE_PERMIT(1), EDITS({N_PERMISSION, 1}), 0);
+    node_does("permission yes, error shows", shows, NODE_PERMIT(1), EDITS({N_PERMISSION, 1}), 0);
+    node_does("permission no, error shows", EDITS({N_PERMISSION, 1}, {N_ERROR, 1}), NODE_PERMIT(0), EDITS({N_PERMISSION, 0}), 0);
+    node_does("request of another's row", NONE, REQUEST(17), EDITS({N_HEARD, 1}), 0);
+    node_answers("request of its own row", 0, EDITS({N_PERMISSION, 1}, {N_WAKE, 1}, {N_ERROR, 1}), REQUEST(16),
+                 EDITS({N_HEARD, 1}, {N_WAKE, 0}, {N_COUNTS + 16, 1}), 1, 1, 0);
+    node_answers("ask to send", 1, NONE, SEND(17), EDITS({N_COUNTS + 17, 1}), 0, 0, 0);
+    node_refuses("ask to send, not heard", 0, NONE, SEND(16), 21);
+    node_refuses("ask to send another's row", 0, NONE, SEND(17), 12);
+    node_refuses("sleep message", 0, NONE, SLEEP_MESSAGE, 25);
+    node_refuses("sleep message, error shows", 0, shows, SLEEP_MESSAGE, 25);
+    node_refuses("sleep message, 11 before 25", 0, EDITS({N_RUNS, 1}), SLEEP_MESSAGE, 11);
+    node_refuses("sleep message, 11 before 16", 0, EDITS({N_STATE, 2}), SLEEP_MESSAGE, 11);
+    node_refuses("node number, 11 before 25", 2, NONE, SLEEP_MESSAGE, 11);
+    node_refuses("11 before 15", 0, EDITS({N_STATE, 1}), REQUEST(128), 11);
+    node_refuses("15", 0, NONE, REQUEST(128), 15);
+    for (unsigned value = 0; value < 256; value++) {
+        uint8_t byte = (uint8_t)value;
+        node_state_is("state", value == 0, EDITS({N_STATE, byte}));
+        node_state_is("delay runs", value == 0, EDITS({N_RUNS, byte}));
+        node_state_is("delay", false, EDITS({N_RUNS, 1}, {N_DELAY, byte}));
+        node_state_is("standby count", value == 0, EDITS({N_STANDBY, byte}));
+        node_state_is("caller in Standby", false, EDITS({N_STATE, 1}, {N_CALLER, 1}, {N_STANDBY, byte}));
+        node_state_is("quiet count", value <= 4, EDITS({N_QUIET, byte}));
+        node_state_is("error", value <= 1, EDITS({N_ERROR, byte}));
+        node_state_is("sequence count", value <= 3, EDITS({N_COUNTS + 16, byte}));
+    }
+    stepped_plan = plan_u;
+    end_group("never sleeps: node");
+}
+
+/* The order of judging a step: 3 to 8, 10, 11, 15, and wrong lengths of plan, state and reply buffer. */
 static void test_step_order(void) {
     uint8_t plan[CXPI_PLAN_LENGTH];
     static uint8_t bytes[LENT_ROOM];
@@ -1145,9 +1283,9 @@ static void test_step_order(void) {
             expect_call(broken_plans[place].what, &made, broken_plans[place].refusal, NONE, NONE);
             made.state_length = 0;
             made.event_length = 0;
-            expect_call("4 to 8 before 11 and 15", &made, broken_plans[place].refusal, NONE, NONE);
+            expect_call("3 to 8 before 11 and 15", &made, broken_plans[place].refusal, NONE, NONE);
             made.reply_length = reply_needed(&made) - 1;
-            expect_call("4 to 8 before 10", &made, broken_plans[place].refusal, NONE, NONE);
+            expect_call("3 to 8 before 10", &made, broken_plans[place].refusal, NONE, NONE);
             made = *both[machine];
         }
         memcpy(bytes, plan_u, sizeof plan_u);
@@ -1347,6 +1485,9 @@ int main(int count, char **arguments) {
     test_node_tick();
     test_node_others();
     test_node_range();
+    test_never_sleeping_master();
+    test_reason_of_profile();
+    test_never_sleeping_node();
     test_no_events();
     test_step_order();
     test_unused_places();

@@ -240,8 +240,9 @@ static bool has_cause(size_t node, uint8_t cause) {
 
 static void probe_master_power_on(void) {
     memset(state, PAINT, sizeof state);
-    IS(cxpi_master_power_on(state, CXPI_MASTER_LENGTH - 1) == CXPI_BUFFER_SHORT && is_painted(state, 0));
-    IS(cxpi_master_power_on(state, CXPI_MASTER_LENGTH) == CXPI_DONE);
+    IS(cxpi_master_power_on(plan, CXPI_PLAN_LENGTH, state, CXPI_MASTER_LENGTH - 1) == CXPI_BUFFER_SHORT && is_painted(state, 0));
+    IS(cxpi_master_power_on(plan, CXPI_PLAN_LENGTH - 1, state, CXPI_MASTER_LENGTH) == CXPI_WRONG_REVISION && is_painted(state, 0));
+    IS(cxpi_master_power_on(plan, CXPI_PLAN_LENGTH, state, CXPI_MASTER_LENGTH) == CXPI_DONE);
     IS(state[CXPI_MASTER_STATE_AT] == CXPI_SLEEP);
     IS(is_painted(state, CXPI_MASTER_LENGTH) && !is_painted(state, CXPI_MASTER_LENGTH - 1));
     for (size_t reqid = 0; reqid < CXPI_REQIDS; reqid++) {
@@ -389,8 +390,9 @@ static bool sends(uint8_t permission, uint8_t wake, uint8_t count) {
 
 static void node_to_power_on(void) {
     memset(state, PAINT, sizeof state);
-    IS(cxpi_node_power_on(state, CXPI_NODE_LENGTH - 1) == CXPI_BUFFER_SHORT && is_painted(state, 0));
-    IS(cxpi_node_power_on(state, CXPI_NODE_LENGTH) == CXPI_DONE);
+    IS(cxpi_node_power_on(plan, CXPI_PLAN_LENGTH, state, CXPI_NODE_LENGTH - 1) == CXPI_BUFFER_SHORT && is_painted(state, 0));
+    IS(cxpi_node_power_on(plan, CXPI_PLAN_LENGTH - 1, state, CXPI_NODE_LENGTH) == CXPI_WRONG_REVISION && is_painted(state, 0));
+    IS(cxpi_node_power_on(plan, CXPI_PLAN_LENGTH, state, CXPI_NODE_LENGTH) == CXPI_DONE);
     IS(state[CXPI_NODE_STATE_AT] == CXPI_SLEEP);
     IS(is_painted(state, CXPI_NODE_LENGTH) && !is_painted(state, CXPI_NODE_LENGTH - 1));
     IS(CXPI_NODE_COUNTS_AT + CXPI_REQIDS == CXPI_NODE_LENGTH);
@@ -452,13 +454,32 @@ static void probe_node(void) {
     IS(step_node(0, 0) == CXPI_NO_EVENT);
 }
 
+/* Panels that never sleep: Normal from power-on on, no sleep message, and the profile as the reason. */
+static void probe_never_sleeps(void) {
+    make_set();
+    set[5] = 1;
+    mend_checks(1024);
+    IS(read_set(1024) == CXPI_DONE);
+    IS(cxpi_master_power_on(plan, CXPI_PLAN_LENGTH, state, CXPI_MASTER_LENGTH) == CXPI_DONE);
+    IS(state[CXPI_MASTER_STATE_AT] == CXPI_NORMAL && state[CXPI_MASTER_PHASE_AT] == CXPI_OPEN);
+    IS(master_does(CXPI_MASTER_SLEEP) == CXPI_NEVER_SLEEPS && master_is(CXPI_NORMAL, CXPI_OPEN, CXPI_MASTER_NOTHING));
+    IS(reason_is(CXPI_REASON_PROFILE, 0, 0));
+    state[CXPI_MASTER_PHASE_AT] = CXPI_SENDING;
+    IS(master_does(CXPI_MASTER_TICK) == CXPI_NO_STATE);
+    IS(cxpi_node_power_on(plan, CXPI_PLAN_LENGTH, state, CXPI_NODE_LENGTH) == CXPI_DONE);
+    IS(state[CXPI_NODE_STATE_AT] == CXPI_NORMAL);
+    IS(node_does(0, CXPI_NODE_SLEEP_MESSAGE) == CXPI_NEVER_SLEEPS && state[CXPI_NODE_DELAY_AT] == 0);
+    state[CXPI_NODE_DELAY_AT] = 1;
+    IS(node_gets(0, CXPI_NODE_TICK, 1) == CXPI_NO_STATE);
+}
+
 /* A list of events: fewer replies than events is refused, and a list's reply is its step's. */
 static void probe_batch(void) {
     struct cxpi_master_event events[2] = {{.kind = CXPI_MASTER_WAKE}, {.kind = CXPI_MASTER_SLEEP}};
     struct cxpi_master_reply replies[2] = {{9, 9, 9, 9}, {9, 9, 9, 9}};
     make_set();
     IS(cxpi_read(set, 1024, plan, CXPI_PLAN_LENGTH) == CXPI_DONE);
-    IS(cxpi_master_power_on(state, CXPI_MASTER_LENGTH) == CXPI_DONE);
+    IS(cxpi_master_power_on(plan, CXPI_PLAN_LENGTH, state, CXPI_MASTER_LENGTH) == CXPI_DONE);
     IS(cxpi_master_batch(plan, CXPI_PLAN_LENGTH, state, CXPI_MASTER_LENGTH, events, 2, replies, 1) == CXPI_REPLIES_SHORT);
     IS(replies[0].refusal == 9 && state[CXPI_MASTER_STATE_AT] == CXPI_SLEEP);
     IS(cxpi_master_batch(plan, CXPI_PLAN_LENGTH, state, CXPI_MASTER_LENGTH, events, 2, replies, 2) == CXPI_DONE);
@@ -520,6 +541,7 @@ int main(void) {
     probe_refusals_of_sets();
     probe_master();
     probe_node();
+    probe_never_sleeps();
     probe_batch();
     probe_configuration();
     printf("%u probes by the header's constants, %u wrong\n", probes, wrong);

@@ -51,18 +51,20 @@ $out/compare
 # The independent drill, by document 01's moves.
 sh $independent/check_drill.sh
 
-# The drill against it: long lists, plain and with odd lines.
+# The drill against it: long lists, plain and with odd lines, over both profiles.
 gcc $flags -O2 $independent/make_set.c $independent/big_plan.c $independent/reference.c -o $out/make_set
 gcc $flags -O2 $independent/drill.c $independent/reference.c -o $out/reference_drill
-$out/make_set > $out/plan.set
 python3 $independent/compare_drills.py crates/drills $out/reference_drill
-for seed in 1 2 3; do
-    for kind in "" odd; do
-        python3 $independent/make_drill.py $out/plan.set 100000 $seed $kind > $out/moves
-        (cd $out && ./reference_drill < moves > wanted && ../bin/drill < moves | cmp - wanted)
+for profile in "" profile; do
+    $out/make_set $profile > $out/plan.set
+    for seed in 1 2 3; do
+        for kind in "" odd; do
+            python3 $independent/make_drill.py $out/plan.set 100000 $seed $kind > $out/moves
+            (cd $out && ./reference_drill < moves > wanted && ../bin/drill < moves | cmp - wanted)
+        done
     done
 done
-echo "drill: 600000 lines as the independent drill prints them"
+echo "drill: 1200000 lines, over both profiles, as the independent drill prints them"
 
 # The line why: the independent program by cases worked out by hand and by faults that must be found; then the product by the same cases, and
 # against it on as many lines as the drill, in short lists.

@@ -10,8 +10,8 @@
 typedef struct {
     uint32_t (*read)(const uint8_t *, size_t, uint8_t *, size_t);
     uint32_t (*write)(const uint8_t *, size_t, uint8_t *, size_t, uint16_t *);
-    uint32_t (*master_power_on)(uint8_t *, size_t);
-    uint32_t (*node_power_on)(uint8_t *, size_t);
+    uint32_t (*master_power_on)(const uint8_t *, size_t, uint8_t *, size_t);
+    uint32_t (*node_power_on)(const uint8_t *, size_t, uint8_t *, size_t);
     uint32_t (*master_step)(const uint8_t *, size_t, uint8_t *, size_t, const uint8_t *, size_t, uint8_t *, size_t);
     uint32_t (*node_step)(const uint8_t *, size_t, uint8_t, uint8_t *, size_t, const uint8_t *, size_t, uint8_t *, size_t);
     uint32_t (*master_batch)(const uint8_t *, size_t, uint8_t *, size_t, const struct cxpi_master_event *, size_t,
@@ -40,8 +40,8 @@ static uint32_t no_write(const uint8_t *from, size_t from_length, uint8_t *to, s
     return 0;
 }
 
-static uint32_t no_power_on(uint8_t *state, size_t length) {
-    (void)state, (void)length;
+static uint32_t no_power_on(const uint8_t *plan, size_t plan_length, uint8_t *state, size_t state_length) {
+    (void)plan, (void)plan_length, (void)state, (void)state_length;
     return 0;
 }
 
@@ -98,7 +98,7 @@ static void make_requests(const reference_plan *record) {
 }
 
 static void make_master(const reference_plan *record) {
-    reference_cxpi_master_power_on(held_master, sizeof held_master);
+    reference_cxpi_master_power_on(plan, sizeof plan, held_master, sizeof held_master);
     held_master[0] = CXPI_NORMAL;
     for (size_t number = 0; number < record->node_count; number++) {
         held_master[9 + 3 * number] = 1;
@@ -114,7 +114,7 @@ static void make_node(const reference_plan *record) {
     while (!record->nodes[node_number].polled) {
         node_number++;
     }
-    reference_cxpi_node_power_on(node, sizeof node);
+    reference_cxpi_node_power_on(plan, sizeof plan, node, sizeof node);
     for (int tick = 0; tick < 2; tick++) {
         reference_cxpi_node_step(plan, sizeof plan, node_number, node, sizeof node, to_normal, sizeof to_normal, reply, sizeof reply);
     }
@@ -143,12 +143,12 @@ static uint32_t run_write(const side *tested, size_t turn) {
 
 static uint32_t run_master_power_on(const side *tested, size_t turn) {
     (void)turn;
-    return tested->master_power_on(state_room, sizeof state_room);
+    return tested->master_power_on(plan, sizeof plan, state_room, sizeof state_room);
 }
 
 static uint32_t run_node_power_on(const side *tested, size_t turn) {
     (void)turn;
-    return tested->node_power_on(state_room, sizeof state_room);
+    return tested->node_power_on(plan, sizeof plan, state_room, sizeof state_room);
 }
 
 static uint32_t run_master_answer(const side *tested, size_t turn) {

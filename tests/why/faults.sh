@@ -52,6 +52,8 @@ fault "$reason s/master->phase == REFERENCE_SENDING || //"
 fault "$reason s/REFERENCE_REASON_OWED/REFERENCE_REASON_SLEEP/"
 fault "$reason s/REFERENCE_WITHDRAWN)/REFERENCE_WITHDRAWN \&\& master->own_permission)/"          # own before owed
 fault "$reason s/if (!master->own_permission)/if (!master->own_permission \&\& master->permissions[0].held)/" # a node before own
+fault "$reason s/never_sleeps(plan)/false/"
+fault "$reason s/never_sleeps(plan)/& \&\& master->own_permission/" # own before the profile
 fault '/^uint32_t reference_master_why/,/^}/ s/!= REFERENCE_NORMAL/== REFERENCE_SLEEP/'
 fault '/^static void wake_all/,/^}/ s/if (master->permissions\[number\].held)/if (number < 16)/'  # marks a node that was not held
 fault 's/master->causes\[row->publisher\] = REFERENCE_CAUSE_WAKE;//'                                # the carrier not marked
