@@ -3,7 +3,7 @@
  *   0        0 a move, 1 no move
  *   1        refusal, 0 for none or no move
  *   2-202    the master, packed
- *   203-2490 the sixteen nodes, packed; those from N on stand at power-on
+ *   203-2490 the sixteen nodes, packed; those from N on stand at power-on, as the plan's profile has it
  *
  * For a refused set nothing is written.
  *
