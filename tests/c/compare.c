@@ -449,7 +449,7 @@ static bool never_sleeps(const reference_plan *plan, uint32_t beyond) {
 /* Any master's state in range; beyond is 0, or 1 to let each limit be passed by one. */
 static void random_master(const reference_plan *plan, uint8_t *state, uint32_t beyond) {
     bool awake = never_sleeps(plan, beyond);
-    bool ready = percent(30); /* for a sleep ask, but for one node at times, so that 20 names any */
+    bool ready = percent(40); /* for a sleep ask, but for one node at times, so that 20 names any */
     uint32_t held_share = ready || percent(20) ? 100 : below(101);
     memset(state, 0, CXPI_MASTER_LENGTH);
     state[0] = (uint8_t)(awake || ready || percent(50) ? CXPI_NORMAL : below(3));
