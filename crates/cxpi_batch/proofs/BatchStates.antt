@@ -33,7 +33,7 @@ use Rattle.master_events.specs.declared.ReplyRecord.{ReplyRecord}
 use Rattle.master_events.specs.Events.{eventOf}
 use Rattle.master_events.specs.Replies.{commandNumber}
 use Rattle.master_batch.specs.Batch.{stepped}
-use Rattle.master_bytes.specs.States.{holdOf, holdsOf, causeOf, causesOf, masterBytes, isMaster, masterOf}
+use Rattle.master_bytes.specs.States.{holdOf, holdsOf, causeOf, causesOf, masterBytes, isMaster, masterOf, noMaster}
 use Rattle.master_bytes.proofs.StateTrips.{packed-long, packed-back, bytes-back}
 use Rattle.master_in_place.specs.InPlace.{isQuiet, agedBytes, isKept, accepting, lostBefore, answerKept}
 use Rattle.master_in_place.proofs.Masters.{Sized, aged-master, aged-sized, keeps, kept-master, kept-sized, lost-master}
@@ -76,13 +76,13 @@ state-is : (sleeps : Bool) (n : ℕ) (t : Times) (s : List ℕ) → inRange slee
 unfolding inRange
 state-is sleeps n t s e = go (isMaster s) refl
   where
-    go : (b : Bool) → isMaster s ≡ b → isMaster s ≡ true
-    go true h = h
-    go false h = no-way (sym (out sleeps) ∙ (rw h at e))
-
     out : (sleeps : Bool) → inRange sleeps n t noMaster ≡ false
     out true = refl
     out false = refl
+
+    go : (b : Bool) → isMaster s ≡ b → isMaster s ≡ true
+    go true h = h
+    go false h = no-way (sym (out sleeps) ∙ (rw h at e))
 
 state-long : (sleeps : Bool) (n : ℕ) (t : Times) (s : List ℕ) → inRange sleeps n t (masterOf s) ≡ true → length s ≡ 201
 unfolding isMaster

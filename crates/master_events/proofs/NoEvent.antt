@@ -5,6 +5,7 @@ use mathlib.Core.Bool.{true, and-false}
 use native.Mathlib.Omega.{arith}
 use borrow.Author.Tests.{le-ltb, ne-eqb}
 use Rattle.plan.specs.declared.Plan.{Plan}
+use Rattle.plan.specs.Profile.{sleeps}
 use Rattle.plan.specs.Rules.{planRefusal}
 use Rattle.master.specs.declared.Master.{Master}
 use Rattle.master.specs.Changes.{refuse}
@@ -39,5 +40,5 @@ module _ (r : EventRecord) where
   wrong-wake-bit k l = rw (k, le-ltb (r .wake) 2 l, and-false)
 
 -- 11 before it, 16 after it
-pub no-event-15 : (p : Plan) (m : Master) → planRefusal p ≡ 0 → inRange (p .nodecount) (p .times) m ≡ true → masterStep p m noEvent ≡ refuse m 15
+pub no-event-15 : (p : Plan) (m : Master) → planRefusal p ≡ 0 → inRange (sleeps p) (p .nodecount) (p .times) m ≡ true → masterStep p m noEvent ≡ refuse m 15
 no-event-15 p m z o = rw (z, o)

@@ -8,6 +8,9 @@ use Rattle.cxpi.proofs.masters.cxpi_master_power_on.Tie as tie
 start-refusal-requires : tie.Need-start-refusal-requires
 start-refusal-requires c κs = search needs
 
+cast-result : tie.Need-cast-result
+cast-result c = search needs
+
 returns : tie.Need-returns
 returns c = rw (← c .before .start-refusal .ensures, ne-eqb _ _ (c .if1 .taken)) (refl, refl)
 
@@ -22,8 +25,8 @@ same-length c = search needs
 
 returns-2 : tie.Need-returns-2
 returns-2 c =
-    rw (← c .before .before .before .before .before .before .start-refusal .ensures, eq-eqb _ _ (c .before .before .before .before .before .if1 .left), ← c .before .before .before .before .sleeps .ensures)
+    rw (← c .before .before .before .before .before .before .start-refusal .ensures, eq-eqb _ _ (c .before .before .before .before .before .if1 .left), ← c .before .before .before .sleeps .ensures)
     (sym (c .before .before .before .before .before .if1 .left), c .before .before .put-power-on .ensures)
 
 pub cxpi-master-power-on-spec : {M : Type 1} → statement M
-cxpi-master-power-on-spec = tie.close (tie.spec start-refusal-requires returns sleeps-requires put-power-on-requires same-length returns-2)
+cxpi-master-power-on-spec = tie.close (tie.spec start-refusal-requires cast-result returns sleeps-requires put-power-on-requires same-length returns-2)
