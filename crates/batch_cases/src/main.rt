@@ -115,7 +115,7 @@ fn print_ran(ran: Ran) {
 }
 
 // Two nodes; a row of each, the first with a sequence count, and one of the master.
-fn plan_of(revision: u16) -> Plan {
+fn plan_of(revision: u16, profile: u8) -> Plan {
     let mut plan = Plan::zero();
     let mut nodes = plan.nodes;
     nodes[0] = NodeEntry {
@@ -159,6 +159,7 @@ fn plan_of(revision: u16) -> Plan {
         start: 2,
     };
     plan.revision = revision;
+    plan.profile = profile;
     plan.nodecount = 2;
     plan.rowcount = 3;
     plan.times = times;
@@ -194,17 +195,17 @@ fn events_of(list: &[u8]) -> [EventRecord; 6] {
     ]
 }
 
-// Where a list starts from: 0 power-on, 1 what the list before it left, 2 a state out of range.
-fn start_of(start: u8, left: Master) -> Master {
+// Where a list starts from: 0 the plan's power-on, 1 what the list before it left, 2 a state out of range.
+fn start_of(start: u8, sleeps: bool, left: Master) -> Master {
     if start == 0 {
-        return Master::power_on();
+        return Master::power_on(sleeps);
     }
     if start == 1 {
         return left;
     }
     Master {
         delay: 1,
-        ..Master::power_on()
+        ..Master::power_on(true)
     }
 }
 
@@ -215,15 +216,17 @@ fn run_list(list: &[u8], left: Master) -> Master {
         command: 9,
         lost: 9,
     };
-    let revision = if byte_at(list, 0) == 0 { 7 } else { 0 };
-    let start = start_of(byte_at(list, 1), left);
-    let ran = run_six(plan_of(revision), start, events_of(list), [untouched; 7]);
+    let revision = if byte_at(list, 0) == 1 { 0 } else { 7 };
+    let profile = if byte_at(list, 0) == 2 { 1 } else { 0 };
+    let plan = plan_of(revision, profile);
+    let start = start_of(byte_at(list, 1), plan.sleeps(), left);
+    let ran = run_six(plan, start, events_of(list), [untouched; 7]);
     print_ran(ran);
     ran.master
 }
 
 fn run_lists(text: &[u8]) {
-    let mut left = Master::power_on();
+    let mut left = Master::power_on(true);
     let mut at: usize = 0;
     while at < text.len() {
         left = run_list(&text[at..], left);

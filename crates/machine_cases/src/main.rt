@@ -119,8 +119,16 @@ fn with_sixteen(mut plan: Plan) -> Plan {
     plan
 }
 
+fn profile_of(x: u64) -> u8 {
+    match x {
+        5 => 1,
+        6 => 2,
+        _ => 0,
+    }
+}
+
 // Two nodes, the first polled; a row of each and one of the master. Plan 1 has the shortest times, 2 a wrong revision, 3 one
-// node with its row, 4 sixteen nodes.
+// node with its row, 4 sixteen nodes, 5 the profile of panels that never sleep, 6 a wrong profile.
 fn plan_of(x: u64) -> Plan {
     let mut plan = Plan::zero();
     let mut nodes = plan.nodes;
@@ -177,6 +185,7 @@ fn plan_of(x: u64) -> Plan {
         }
     };
     plan.revision = if x == 2 { 0 } else { 7 };
+    plan.profile = profile_of(x);
     plan.nodecount = if x == 3 { 1 } else { 2 };
     plan.rowcount = if x == 3 { 1 } else { 3 };
     plan.times = times;

@@ -34,7 +34,7 @@ fn hold_of(held: u64, age: u64) -> Hold {
 
 // The second node's places are those of the last of plan 4's.
 fn master_of(v: [u64; 22]) -> Master {
-    let start = Master::power_on();
+    let start = Master::power_on(true);
     let mut holds = start.holds;
     holds[0] = hold_of(v[5], v[6]);
     let mut causes = start.causes;

@@ -23,7 +23,7 @@ fn delay_of(x: u64) -> Delay {
 }
 
 fn node_of(v: [u64; 22]) -> Node {
-    let start = Node::power_on();
+    let start = Node::power_on(true);
     let mut counts = start.counts;
     counts[16] = narrow(v[11]);
     counts[17] = narrow(v[12]);

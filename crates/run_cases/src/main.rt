@@ -1,5 +1,6 @@
 // A test of the running bus. Of each file of moves that an argument names it prints the name, the refusal, and the states of the
-// master, with its phase, and of both nodes, `!` for an error; then the same of the first file under a refused plan.
+// master, with its phase, and of both nodes, `!` for an error; then the same under the plan of panels that never sleep, and at the
+// end of the first file under a refused plan.
 use libc::STDOUT_FILENO;
 use machine::State;
 use master::Phase;
@@ -55,7 +56,7 @@ fn print_ran(ran: Ran) {
 }
 
 // Two nodes, each with a row; settling time 5, S + 2 = 4.
-fn plan_of(revision: u16) -> Plan {
+fn plan_of(revision: u16, profile: u8) -> Plan {
     let mut plan = Plan::zero();
     let mut nodes = plan.nodes;
     nodes[0] = NodeEntry {
@@ -93,6 +94,7 @@ fn plan_of(revision: u16) -> Plan {
         start: 1,
     };
     plan.revision = revision;
+    plan.profile = profile;
     plan.nodecount = 2;
     plan.rowcount = 2;
     plan.times = times;
@@ -101,21 +103,22 @@ fn plan_of(revision: u16) -> Plan {
     plan
 }
 
-fn run_file(argument: usize, revision: u16) {
+fn run_file(argument: usize, revision: u16, profile: u8) {
     let mut name = io::buffer();
     let name_length = os::arg(argument, &mut name);
     print(&name[..name_length]);
     let mut moves = io::large_buffer();
     let count = set_file::read_set(&name[..name_length], &mut moves);
-    print_ran(runs::run(plan_of(revision), &moves[..count]));
+    print_ran(runs::run(plan_of(revision, profile), &moves[..count]));
 }
 
 fn main() {
     let count = os::arg_count();
     let mut i: usize = 1;
     while i < count {
-        run_file(i, 1);
+        run_file(i, 1, 0);
+        run_file(i, 1, 1);
         i += 1;
     }
-    run_file(1, 0);
+    run_file(1, 0, 0);
 }

@@ -19,6 +19,9 @@ loop-holds c = search needs
 run-file-requires : tie.Need-run-file-requires Inv-loop μ-loop
 run-file-requires c κs = search needs
 
+run-file-requires-2 : tie.Need-run-file-requires-2 Inv-loop μ-loop
+run-file-requires-2 c κs = search needs
+
 add-i : tie.Need-add-i Inv-loop μ-loop
 add-i c = search needs
 
@@ -28,8 +31,8 @@ loop-less c = search needs
 loop-again : tie.Need-loop-again Inv-loop μ-loop
 loop-again c = search needs
 
-run-file-requires-2 : tie.Need-run-file-requires-2 Inv-loop μ-loop
-run-file-requires-2 c κs = search needs
+run-file-requires-3 : tie.Need-run-file-requires-3 Inv-loop μ-loop
+run-file-requires-3 c κs = search needs
 
 returns : tie.Need-returns Inv-loop μ-loop
 returns c = search needs
@@ -43,8 +46,9 @@ main-spec =
     arg-count-requires
     loop-holds
     run-file-requires
+    run-file-requires-2
     add-i
     loop-less
     loop-again
-    run-file-requires-2
+    run-file-requires-3
     returns)
