@@ -1,5 +1,5 @@
 -- Requests, answers and the sleep message on the bus.
-use Prim.Native.Nat.{ℕ}
+use Prim.Native.Nat.{ℕ, min}
 use mathlib.Core.Bool.{Bool, true, false, not, _&&_}
 use mathlib.Core.List.{List}
 use lib.Dec.{ltb, eqb}
@@ -11,7 +11,7 @@ use Rattle.plan.specs.declared.Lookup.{Lookup}
 use Rattle.plan.specs.declared.Plan.{Plan}
 use Rattle.plan.specs.declared.Row.{Row}
 use Rattle.plan.specs.Limits.{reqids, seqCounts}
-use Rattle.plan.specs.Answers.{isPolled}
+use Rattle.plan.specs.Answers.{isPolled, isVariable}
 use Rattle.plan.specs.Find.{findRow}
 use Rattle.node.specs.declared.Node.{Node}
 use Rattle.node.specs.declared.Command as NodeCommand
@@ -38,7 +38,7 @@ use Rattle.bus.specs.World.{nodeAt, withMaster, withNodes, stays}
 
 -- "damaged (result not 0, ReqId kept, count still 0 to 3)"
 abbrev pub fateRight : Fate → Bool
-fateRight Fate.Whole = true
+fateRight (Fate.Whole length) = true
 fateRight (Fate.Damaged damage) = not (eqb (damage .result) 0) && ltb (damage .count) seqCounts
 fateRight Fate.Lost = true
 
@@ -46,12 +46,16 @@ fateRight Fate.Lost = true
 abbrev pub messageRefusal : ℕ → Fate → State → ℕ
 messageRefusal reqid fate master = pick (ltb reqid reqids) (pick (fateRight fate) (pick (isNormal master) 0 16) 15) 15
 
+-- W-207, "an answer of a variable row may be sent with any length up to the row's"; a fixed row's is its own
+abbrev pub sentLength : Row → ℕ → ℕ
+sentLength row length = pick (isVariable row) (min length (row .length)) (row .length)
+
 -- "an answer reaches the master whole, damaged .. or not at all"
 abbrev pub carried : Fate → Row → NodeCommand.Command → Arrival
 carried fate row NodeCommand.Command.Nothing = Arrival.Nothing
 carried fate row NodeCommand.Command.Pulse = Arrival.Nothing
-carried Fate.Whole row (NodeCommand.Command.Send permission wake count) =
-    Arrival.Answer row (record { reqid = row .reqid; result = 0; length = row .length; count = count; permission = permission; wake = wake })
+carried (Fate.Whole length) row (NodeCommand.Command.Send permission wake count) =
+    Arrival.Answer row (record { reqid = row .reqid; result = 0; length = sentLength row length; count = count; permission = permission; wake = wake })
 carried (Fate.Damaged damage) row (NodeCommand.Command.Send permission wake count) =
     Arrival.Answer row
     (record { reqid = row .reqid; result = damage .result; length = damage .length; count = damage .count; permission = damage .permission; wake = damage .wake })

@@ -54,7 +54,8 @@ pub struct Damage {
 
 // What becomes of an answer.
 pub enum Fate {
-    Whole,
+    // with the length that one of a variable row is sent with; above the row's own it is the row's own
+    Whole(u16),
     Damaged(Damage),
     Lost,
 }

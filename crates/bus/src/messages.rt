@@ -2,7 +2,7 @@
 ghost use mathlib.Core.Path.{_≡_};
 ghost use Prim.Native.Nat.{_≤_, _<_};
 ghost use Rattle.plan.specs.Limits.{maxNodes};
-ghost use Rattle.bus.specs.Messages.{fateRight, messageRefusal, carried, unanswered, deliver, publish, requestMove, sendRow, sendAskBy, sendAskMove, sendingBy, sleepAskMove, sendResultMove};
+ghost use Rattle.bus.specs.Messages.{fateRight, messageRefusal, sentLength, carried, unanswered, deliver, publish, requestMove, sendRow, sendAskBy, sendAskMove, sendingBy, sleepAskMove, sendResultMove};
 use crate::Arrival;
 use crate::Bus;
 use crate::Delivered;
@@ -27,7 +27,7 @@ fn fate_right(fate: Fate) -> bool
     ensures { λ r. ⌜ r ≡ fateRight fate ⌝ }
 {
     match fate {
-        Fate::Whole => true,
+        Fate::Whole(_) => true,
         Fate::Damaged(damage) => !(damage.result == 0) & (damage.count < Row::COUNTS),
         Fate::Lost => true,
     }
@@ -48,6 +48,18 @@ fn message_refusal(reqid: u8, fate: Fate, master: State) -> u8
     }
 }
 
+// The length of a whole answer.
+fn sent_length(row: Row, length: u16) -> u16
+    ensures { λ r. ⌜ r ≡ sentLength row length ⌝ }
+{
+    let own = row.length as u16;
+    if row.is_variable() {
+        if length <= own { length } else { own }
+    } else {
+        own
+    }
+}
+
 fn carried(fate: Fate, row: Row, command: Command) -> Arrival
     ensures { λ r. ⌜ r ≡ carried fate row command ⌝ }
 {
@@ -59,12 +71,12 @@ fn carried(fate: Fate, row: Row, command: Command) -> Arrival
             wake,
             count,
         } => match fate {
-            Fate::Whole => Arrival::Answer {
+            Fate::Whole(length) => Arrival::Answer {
                 row,
                 answer: Answer {
                     reqid: row.reqid,
                     result: 0,
-                    length: row.length as u16,
+                    length: sent_length(row, length),
                     count,
                     permission,
                     wake,

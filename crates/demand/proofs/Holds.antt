@@ -49,7 +49,7 @@ use Rattle.bus.specs.declared.Fate.{Fate}
 use Rattle.bus.specs.declared.Message.{Message}
 use Rattle.bus.specs.declared.Move.{Move}
 use Rattle.bus.specs.declared.World.{World}
-use Rattle.bus.specs.Messages.{fateRight, messageRefusal, judgedMessage, carried, arrive, deliver, deliveredIn, publishFound, sendAskBy, sendingBy}
+use Rattle.bus.specs.Messages.{fateRight, messageRefusal, judgedMessage, sentLength, carried, arrive, deliver, deliveredIn, publishFound, sendAskBy, sendingBy}
 use Rattle.bus.specs.Moves.{actBy, worldAct}
 use Rattle.bus.specs.Owners.{ofNode, wakeAskBy, permissionBy}
 use Rattle.bus.specs.Pulses.{withCaller, anyCalled, reachAll, spread}
@@ -153,8 +153,8 @@ module _ (p : Plan) (ok : planRefusal p ≡ 0) (past : List Passed) where
       sends : (f : Fate) → fateRight f ≡ true → (c : NodeCommand.Command) → Tells n ⊥ (ownRow me (Lookup.Found row) n) c → Kept (deliveredIn nodes (arrive (w .master) (carried f row c)))
       sends f r NodeCommand.Command.Nothing t = quietly 0
       sends f r NodeCommand.Command.Pulse t = quietly 0
-      sends Fate.Whole r (NodeCommand.Command.Send permission wake count) t =
-          arrives nodes (record { reqid = row .reqid; result = 0; length = row .length; count = count; permission = permission; wake = wake }) told (omega (arith, l, t .2 .0)) refl
+      sends (Fate.Whole length) r (NodeCommand.Command.Send permission wake count) t =
+          arrives nodes (record { reqid = row .reqid; result = 0; length = sentLength row length; count = count; permission = permission; wake = wake }) told (omega (arith, l, t .2 .0)) refl
           (own-count (p .times) me count row n (s .fits) (omega (arith, moves .known, same)) (t .2))
           (λ whole y. ap (λ (j : ℕ). nodePermitted j past) (t .2 .0) ∙ sym (s .permission) ∙ sym (t .0) ∙ y)
       sends (Fate.Damaged d) r (NodeCommand.Command.Send permission wake count) t =

@@ -15,14 +15,14 @@ judged lines = map (λ line. parseLine (ascii line) 16) lines
 
 -- moves of which the bus loses nothing
 pub whole-moves : judged ("tick" ∷ "wake 15" ∷ "wake m" ∷ "permit 0 1" ∷ "permit m 0" ∷ "req 0 ok" ∷ "sleep" ∷ "sent ok" ∷ [])
-    ≡ map (λ act. Line.Move act true Fate.Whole) (
+    ≡ map (λ act. Line.Move act true whole) (
     Act.Tick ∷ Act.NodeWakeAsk 15 ∷ Act.MasterWakeAsk ∷ Act.NodePermission 0 true ∷ Act.MasterPermission false ∷ Act.Request 0 ∷ Act.SleepAsk
     ∷ Act.SendResult true ∷ [])
 unfolding parseLine cut same
 whole-moves = refl
 
 pub other-moves : judged ("req 127 bad" ∷ "send 9 10 lost" ∷ "sent fail" ∷ [])
-    ≡ Line.Move (Act.Request 127) true damaged ∷ Line.Move (Act.SendAsk 9 10) true Fate.Lost ∷ Line.Move (Act.SendResult false) false Fate.Whole ∷ []
+    ≡ Line.Move (Act.Request 127) true damaged ∷ Line.Move (Act.SendAsk 9 10) true Fate.Lost ∷ Line.Move (Act.SendResult false) false whole ∷ []
 unfolding parseLine cut same
 other-moves = refl
 

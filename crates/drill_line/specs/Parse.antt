@@ -19,6 +19,10 @@ use Rattle.drill_line.specs.declared.Who.{Who}
 abbrev pub whoOf : List ℕ → ℕ → Who
 whoOf w nodecount = pick (same w (ascii "m")) Who.Master (pick (ltb (numberOf w) nodecount) (Who.Node (numberOf w)) Who.Nobody)
 
+-- W-207: "The drill sends the row's own length", which no row's is above
+abbrev pub whole : Fate
+whole = Fate.Whole 65535
+
 -- "damaged (result not 0, ReqId kept, count still 0 to 3)": result 1, and all else clear, which the master does not look at
 abbrev pub damaged : Fate
 damaged = Fate.Damaged (record { result = 1; length = 0; count = 0; permission = false; wake = false })
@@ -26,25 +30,25 @@ damaged = Fate.Damaged (record { result = 1; length = 0; count = 0; permission =
 -- "H being ok, bad or lost for the answer"
 abbrev pub fateOf : List ℕ → FateWord
 fateOf w =
-    pick (same w (ascii "ok")) (FateWord.Is Fate.Whole)
+    pick (same w (ascii "ok")) (FateWord.Is whole)
     (pick (same w (ascii "bad")) (FateWord.Is damaged)
     (pick (same w (ascii "lost")) (FateWord.Is Fate.Lost)
     FateWord.Unknown))
 
 -- `tick`; `sleep`
 abbrev pub oneWord : List ℕ → Line
-oneWord w = pick (same w (ascii "tick")) (Line.Move Act.Tick true Fate.Whole) (pick (same w (ascii "sleep")) (Line.Move Act.SleepAsk true Fate.Whole) Line.Bad)
+oneWord w = pick (same w (ascii "tick")) (Line.Move Act.Tick true whole) (pick (same w (ascii "sleep")) (Line.Move Act.SleepAsk true whole) Line.Bad)
 
 abbrev pub wakeOf : Who → Line
-wakeOf (Who.Node node) = Line.Move (Act.NodeWakeAsk node) true Fate.Whole
-wakeOf Who.Master = Line.Move Act.MasterWakeAsk true Fate.Whole
+wakeOf (Who.Node node) = Line.Move (Act.NodeWakeAsk node) true whole
+wakeOf Who.Master = Line.Move Act.MasterWakeAsk true whole
 wakeOf Who.Nobody = Line.Bad
 
 -- "`sent ok` (reaches all) or `sent fail` (none)"
 abbrev pub sentOf : List ℕ → Line
 sentOf result =
-    pick (same result (ascii "ok")) (Line.Move (Act.SendResult true) true Fate.Whole)
-    (pick (same result (ascii "fail")) (Line.Move (Act.SendResult false) false Fate.Whole)
+    pick (same result (ascii "ok")) (Line.Move (Act.SendResult true) true whole)
+    (pick (same result (ascii "fail")) (Line.Move (Act.SendResult false) false whole)
     Line.Bad)
 
 -- `wake X`; `sent ok` or `sent fail`
@@ -52,8 +56,8 @@ abbrev pub twoWords : List ℕ → List ℕ → ℕ → Line
 twoWords w x nodecount = pick (same w (ascii "wake")) (wakeOf (whoOf x nodecount)) (pick (same w (ascii "sent")) (sentOf x) Line.Bad)
 
 abbrev pub permitWho : Who → Bool → Line
-permitWho (Who.Node node) permitted = Line.Move (Act.NodePermission node permitted) true Fate.Whole
-permitWho Who.Master permitted = Line.Move (Act.MasterPermission permitted) true Fate.Whole
+permitWho (Who.Node node) permitted = Line.Move (Act.NodePermission node permitted) true whole
+permitWho Who.Master permitted = Line.Move (Act.MasterPermission permitted) true whole
 permitWho Who.Nobody permitted = Line.Bad
 
 abbrev pub permitOf : Who → List ℕ → Line

@@ -34,6 +34,9 @@ pub enum Line {
     Bad,
 }
 
+// A whole answer has its row's own length, which no row's is above.
+const OWN_LENGTH: u16 = u16::MAX;
+
 // What a word that is no number counts as.
 const NO_NUMBER: u16 = 1000;
 
@@ -149,7 +152,7 @@ fn fate_word(word: &[u8]) -> FateWord
     ensures { λ r. ⌜ r ≡ fateOf (now (word .entry)) ⌝ }
 {
     if same(word, b"ok") {
-        return FateWord::Is(Fate::Whole);
+        return FateWord::Is(Fate::Whole(OWN_LENGTH));
     }
     if same(word, b"bad") {
         return FateWord::Is(Fate::Damaged(Damage {
@@ -170,10 +173,10 @@ fn one_word(first: &[u8]) -> Line
     ensures { λ r. ⌜ r ≡ oneWord (now (first .entry)) ⌝ }
 {
     if same(first, b"tick") {
-        return Line::Move(Act::Tick, true, Fate::Whole);
+        return Line::Move(Act::Tick, true, Fate::Whole(OWN_LENGTH));
     }
     if same(first, b"sleep") {
-        return Line::Move(Act::SleepAsk, true, Fate::Whole);
+        return Line::Move(Act::SleepAsk, true, Fate::Whole(OWN_LENGTH));
     }
     Line::Bad
 }
@@ -182,8 +185,8 @@ fn wake(who: Who) -> Line
     ensures { λ r. ⌜ r ≡ wakeOf who ⌝ }
 {
     match who {
-        Who::Node(node) => Line::Move(Act::NodeWakeAsk(node), true, Fate::Whole),
-        Who::Master => Line::Move(Act::MasterWakeAsk, true, Fate::Whole),
+        Who::Node(node) => Line::Move(Act::NodeWakeAsk(node), true, Fate::Whole(OWN_LENGTH)),
+        Who::Master => Line::Move(Act::MasterWakeAsk, true, Fate::Whole(OWN_LENGTH)),
         Who::Nobody => Line::Bad,
     }
 }
@@ -192,10 +195,10 @@ fn sent(result: &[u8]) -> Line
     ensures { λ r. ⌜ r ≡ sentOf (now (result .entry)) ⌝ }
 {
     if same(result, b"ok") {
-        return Line::Move(Act::SendResult(true), true, Fate::Whole);
+        return Line::Move(Act::SendResult(true), true, Fate::Whole(OWN_LENGTH));
     }
     if same(result, b"fail") {
-        return Line::Move(Act::SendResult(false), false, Fate::Whole);
+        return Line::Move(Act::SendResult(false), false, Fate::Whole(OWN_LENGTH));
     }
     Line::Bad
 }
@@ -216,8 +219,8 @@ fn permit_who(who: Who, permitted: bool) -> Line
     ensures { λ r. ⌜ r ≡ permitWho who permitted ⌝ }
 {
     match who {
-        Who::Node(node) => Line::Move(Act::NodePermission { node, permitted }, true, Fate::Whole),
-        Who::Master => Line::Move(Act::MasterPermission(permitted), true, Fate::Whole),
+        Who::Node(node) => Line::Move(Act::NodePermission { node, permitted }, true, Fate::Whole(OWN_LENGTH)),
+        Who::Master => Line::Move(Act::MasterPermission(permitted), true, Fate::Whole(OWN_LENGTH)),
         Who::Nobody => Line::Bad,
     }
 }

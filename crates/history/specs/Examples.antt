@@ -55,7 +55,7 @@ neverPlan =
 
 -- a bus that loses nothing, and one that carries nothing but a pulse to some nodes
 abbrev pub lossless : Bus
-lossless = record { reached = replicate 16 true; hearing = replicate 16 true; master = true; fate = Fate.Whole }
+lossless = record { reached = replicate 16 true; hearing = replicate 16 true; master = true; fate = Fate.Whole 2 }
 
 abbrev pub deaf : Bool → Bus
 deaf hearing = record { reached = replicate 16 false; hearing = replicate 16 hearing; master = false; fate = Fate.Lost }
@@ -86,7 +86,7 @@ asking = askingAfter 0
 
 -- the message's result reaches a set of nodes
 abbrev pub result : Bool → Bool → Move
-result sent reached = record { act = Act.SendResult sent; bus = record { reached = replicate 16 reached; hearing = replicate 16 true; master = true; fate = Fate.Whole } }
+result sent reached = record { act = Act.SendResult sent; bus = record { reached = replicate 16 reached; hearing = replicate 16 true; master = true; fate = Fate.Whole 2 } }
 
 -- it goes out: the clock stops at the D-th tick
 abbrev pub stopping : List Move

@@ -68,7 +68,7 @@ unfolding rowAfter
 row-publisher n b r e z =
     let x = ltb b (r .reqid) && ltb (r .reqid) reqids in
     let y = ltb (r .publisher) n || eqb (r .publisher) masterNumber in
-    let h : (ltb (r .publisher) n || eqb (r .publisher) masterNumber) ≡ true = and-r x y (and-l (x && y) (leb (r .kind) 1) e) in
+    let h : (ltb (r .publisher) n || eqb (r .publisher) masterNumber) ≡ true = and-r x y (and-l (x && y) (leb (r .kind) 3) e) in
     let q : ltb (r .publisher) n ≡ true = sym (or-false (ltb (r .publisher) n)) ∙ ap (λ w. ltb (r .publisher) n || w) (sym z) ∙ h in
     ltb-true _ _ q
 

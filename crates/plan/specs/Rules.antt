@@ -52,10 +52,10 @@ unfoldable pub reqidBefore : List Row → ℕ → ℕ
 reqidBefore rows j = pick (eqb j 0) 0 (rowAt rows (j - 1) .reqid)
 
 -- 7: "ReqId 1 to 127, rising strictly"; "publisher, a node number below N or 255 for the master"; any length;
--- "1 if it carries a sequence count, else 0"
+-- W-207: "7 for a last byte above 3"
 unfoldable pub rowAfter : ℕ → ℕ → Row → Bool
 rowAfter nodecount before r =
-    ltb before (r .reqid) && ltb (r .reqid) reqids && (ltb (r .publisher) nodecount || eqb (r .publisher) masterNumber) && leb (r .kind) 1
+    ltb before (r .reqid) && ltb (r .reqid) reqids && (ltb (r .publisher) nodecount || eqb (r .publisher) masterNumber) && leb (r .kind) 3
 
 -- a row's bytes as one number, the ReqId lowest and the kind highest
 pub record RowWord (r : Row) (word : ℕ) : Type 0 where

@@ -1,7 +1,7 @@
 // The plan record of a release set. Every value is a number that can hold a wrong one, so that a wrong record is refused and not impossible.
 ghost use mathlib.Core.Path.{_≡_};
 ghost use Rattle.plan.specs.Record.{zeroPlan, entryAt};
-ghost use Rattle.plan.specs.Answers.{isPolled, isCounted, accepts};
+ghost use Rattle.plan.specs.Answers.{isPolled, isCounted, isVariable, accepts};
 ghost use Rattle.plan.specs.Profile.{sleeps};
 
 mod find;
@@ -122,14 +122,25 @@ impl Row {
     pub fn is_counted(self) -> bool
         ensures { λ r. ⌜ r ≡ isCounted self ⌝ }
     {
-        self.kind == 1
+        self.kind % 2 == 1
+    }
+
+    // Whether an answer of the row may be shorter than it.
+    pub fn is_variable(self) -> bool
+        ensures { λ r. ⌜ r ≡ isVariable self ⌝ }
+    {
+        2 <= self.kind
     }
 
     // Whether an answer of a length is one that the row accepts.
     pub fn accepts(self, length: u16) -> bool
         ensures { λ r. ⌜ r ≡ accepts self length ⌝ }
     {
-        length == (self.length as u16)
+        if self.is_variable() {
+            length <= (self.length as u16)
+        } else {
+            length == (self.length as u16)
+        }
     }
 }
 

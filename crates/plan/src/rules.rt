@@ -108,7 +108,7 @@ pub fn row_after(nodecount: u8, before: u8, row: Row) -> bool
     ((before as u32) < reqid)
         & (reqid < (Row::REQIDS as u32))
         & ((publisher + 1) % 256 <= (nodecount as u32))
-        & (word / 16777216 <= 1)
+        & (word / 16777216 <= 3)
 }
 
 // No exit, so that the loop is compiled to vector instructions. The row is passed, not the rows: an array handed over in a loop is

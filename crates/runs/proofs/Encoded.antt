@@ -87,7 +87,7 @@ encoded m f =
     }
   where
     fate-back : (fate : Fate) → fateOf (fateByte fate) (damageOf (encode (withFate m fate))) ≡ fate
-    fate-back Fate.Whole = refl
+    fate-back (Fate.Whole length) = ap Fate.Whole (two-bytes length)
     fate-back (Fate.Damaged d) = ap Fate.Damaged (damage-back d)
     fate-back Fate.Lost = refl
 
@@ -127,7 +127,7 @@ pub encoded-right : (m : Move) → isMove (encode m) ≡ true
 encoded-right m = go (m .bus .fate)
   where
     go : (fate : Fate) → isMove (encode (withFate m fate)) ≡ true
-    go Fate.Whole = rw (kind-right (m .act), flag-right (m .act), bit-right (m .bus .master))
+    go (Fate.Whole length) = rw (kind-right (m .act), flag-right (m .act), bit-right (m .bus .master))
     go (Fate.Damaged d) = rw (kind-right (m .act), flag-right (m .act), bit-right (m .bus .master), bit-right (d .permission), bit-right (d .wake))
     go Fate.Lost = rw (kind-right (m .act), flag-right (m .act), bit-right (m .bus .master))
 
@@ -135,7 +135,7 @@ encoded-size : (m : Move) → length (encode m) ≡ 16
 encoded-size m = omega (arith, size (m .bus .fate))
   where
     size : (fate : Fate) → length (damageBytes fate) ≡ 7
-    size Fate.Whole = refl
+    size (Fate.Whole length) = refl
     size (Fate.Damaged d) = refl
     size Fate.Lost = refl
 
@@ -177,7 +177,7 @@ zero-bytes zero = none
 zero-bytes (suc n) = more 0 (omega arith) (zero-bytes n)
 
 damage-bytes : (fate : Fate) → DamageFits fate → Bytes (damageBytes fate)
-damage-bytes Fate.Whole f = zero-bytes 7
+damage-bytes (Fate.Whole length) f = two-more 0 (omega arith) (two-more length f (zero-bytes 3))
 damage-bytes (Fate.Damaged d) f =
     two-more (d .result) (f .0) (two-more (d .length) (f .1) (more (d .count) (f .2) (bit-more (d .permission) (bit-more (d .wake) none))))
 damage-bytes Fate.Lost f = zero-bytes 7
@@ -189,7 +189,7 @@ encoded-bytes m f =
     (bit-more (m .bus .master) (damage-bytes (m .bus .fate) (f .damage))))))))
   where
     fate-small : (fate : Fate) → fateByte fate < 256
-    fate-small Fate.Whole = omega arith
+    fate-small (Fate.Whole length) = omega arith
     fate-small (Fate.Damaged d) = omega arith
     fate-small Fate.Lost = omega arith
 

@@ -60,13 +60,13 @@ valueOf (Act.SendResult sent) = bit sent
 
 -- byte 3: what becomes of an answer
 abbrev pub fateByte : Fate → ℕ
-fateByte Fate.Whole = 0
+fateByte (Fate.Whole length) = 0
 fateByte (Fate.Damaged d) = 1
 fateByte Fate.Lost = 2
 
--- bytes 9 to 15: a damaged answer, 0 where there is none
+-- bytes 9 to 15: a damaged answer, or the length of a whole one
 abbrev pub damageBytes : Fate → List ℕ
-damageBytes Fate.Whole = replicate 7 0
+damageBytes (Fate.Whole length) = twoBytes 0 ++ twoBytes length ++ replicate 3 0
 damageBytes (Fate.Damaged d) = twoBytes (d .result) ++ twoBytes (d .length) ++ (d .count ∷ bit (d .permission) ∷ bit (d .wake) ∷ [])
 damageBytes Fate.Lost = replicate 7 0
 
@@ -81,9 +81,9 @@ abbrev pub encodeAll : List Move → List ℕ
 encodeAll [] = []
 encodeAll (m ∷ moves) = encode m ++ encodeAll moves
 
--- a damaged answer has two bytes for its result and its length each, and one for its count
+-- a damaged answer has two bytes for its result and its length each, and one for its count; a whole one two for its length
 abbrev pub DamageFits : Fate → Type 0
-DamageFits Fate.Whole = Unit {0}
+DamageFits (Fate.Whole length) = length < 65536
 DamageFits (Fate.Damaged d) = (d .result < 65536) × (d .length < 65536) × (d .count < 256)
 DamageFits Fate.Lost = Unit {0}
 

@@ -49,9 +49,9 @@ damageOf s =
       wake = eqb (byte s 15) 1;
     }
 
--- byte 3: what becomes of an answer
+-- byte 3: what becomes of an answer; W-207: bytes 11 and 12 are also a whole one's length
 abbrev pub fateOf : ℕ → Damage → Fate
-fateOf fate damage = pick (eqb fate 0) Fate.Whole (pick (eqb fate 1) (Fate.Damaged damage) Fate.Lost)
+fateOf fate damage = pick (eqb fate 0) (Fate.Whole (damage .length)) (pick (eqb fate 1) (Fate.Damaged damage) Fate.Lost)
 
 -- bytes 3 to 15: what the bus does in the move
 abbrev pub busOf : List ℕ → Bus

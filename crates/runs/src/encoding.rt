@@ -83,7 +83,7 @@ fn fate_of(fate: u8, damage: Damage) -> Fate
     ensures { λ r. ⌜ r ≡ fateOf fate damage ⌝ }
 {
     if fate == 0 {
-        return Fate::Whole;
+        return Fate::Whole(damage.length);
     }
     if fate == 1 {
         return Fate::Damaged(damage);

@@ -8,7 +8,8 @@
 //  4-5   nodes that a request or a sleep message reaches, bit i for node i
 //  6-7   nodes that hear a wake-up pulse of another
 //  8     1 if the master hears a wake-up pulse, else 0
-//  9-10  result of a damaged answer; 11-12 its length; 13 its count; 14 its permission bit; 15 its wake bit
+//  9-10  result of a damaged answer; 11-12 its length; 13 its count; 14 its permission bit; 15 its wake bit;
+//        11-12 also the length that a whole answer of a variable row is sent with, the row's own where they are above it
 //
 // Bytes 0, 3, 8, 14 and 15 are judged in every record, byte 2 in acts 3, 4 and 8; the others may be anything, also where the act does
 // not read them.
