@@ -1,4 +1,5 @@
 pub mod EachOne
+mod Lengths
 mod Publishing
 pub mod Resting
 mod Ticking

@@ -1,8 +1,8 @@
 -- Requests, answers and the sleep message on the bus.
-use Prim.Native.Nat.{ℕ, min}
+use Prim.Native.Nat.{ℕ}
 use mathlib.Core.Bool.{Bool, true, false, not, _&&_}
 use mathlib.Core.List.{List}
-use lib.Dec.{ltb, eqb}
+use lib.Dec.{leb, ltb, eqb}
 use lib.ListN.{getD, set}
 use Rattle.folds.specs.Fold.{pick}
 use Rattle.machine.specs.declared.State.{State}
@@ -48,7 +48,7 @@ messageRefusal reqid fate master = pick (ltb reqid reqids) (pick (fateRight fate
 
 -- W-207, "an answer of a variable row may be sent with any length up to the row's"; a fixed row's is its own
 abbrev pub sentLength : Row → ℕ → ℕ
-sentLength row length = pick (isVariable row) (min length (row .length)) (row .length)
+sentLength row length = pick (isVariable row && leb length (row .length)) length (row .length)
 
 -- "an answer reaches the master whole, damaged .. or not at all"
 abbrev pub carried : Fate → Row → NodeCommand.Command → Arrival

@@ -53,8 +53,8 @@ fn sent_length(row: Row, length: u16) -> u16
     ensures { λ r. ⌜ r ≡ sentLength row length ⌝ }
 {
     let own = row.length as u16;
-    if row.is_variable() {
-        if length <= own { length } else { own }
+    if row.is_variable() & (length <= own) {
+        length
     } else {
         own
     }

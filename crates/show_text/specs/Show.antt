@@ -8,6 +8,7 @@ use Rattle.plan.specs.declared.NodeEntry.{NodeEntry}
 use Rattle.plan.specs.declared.Row.{Row}
 use Rattle.plan.specs.declared.Times.{Times}
 use Rattle.plan.specs.declared.Plan.{Plan}
+use Rattle.plan.specs.Answers.{isCounted, isVariable}
 use Rattle.plan.specs.Profile.{sleeps}
 use Rattle.plan.specs.Record.{entryAt, rowAt}
 use Rattle.reader.specs.declared.ReadAnswer.{ReadAnswer}
@@ -43,16 +44,20 @@ nodesText nodes (suc n) = nodesText nodes n ++ nodeLine n (entryAt nodes n)
 unfoldable pub publisherText : ℕ → List ℕ
 publisherText publisher = pick (eqb publisher 255) (ascii "master") (ascii "node " ++ decimal publisher)
 
-unfoldable pub countText : ℕ → List ℕ
-countText kind = pick (eqb kind 0) (ascii "without sequence count") (ascii "with sequence count")
+unfoldable pub countText : Bool → List ℕ
+countText counted = pick counted (ascii "with sequence count") (ascii "without sequence count")
+
+-- W-207: a variable row "accepts any length up to its own"
+unfoldable pub lengthText : Bool → List ℕ
+lengthText variable = pick variable (ascii ", length up to ") (ascii ", length ")
 
 -- behind the publisher, to the line's end
-unfoldable pub lengthAndCountText : ℕ → ℕ → List ℕ
-lengthAndCountText length kind = ascii ", length " ++ decimal length ++ ascii ", " ++ countText kind ++ ascii "\n"
+unfoldable pub lengthAndCountText : Row → List ℕ
+lengthAndCountText r = lengthText (isVariable r) ++ decimal (r .length) ++ ascii ", " ++ countText (isCounted r) ++ ascii "\n"
 
 unfoldable pub rowLine : Row → List ℕ
 rowLine r =
-    ascii "ReqId " ++ decimal (r .reqid) ++ ascii ": publisher " ++ publisherText (r .publisher) ++ lengthAndCountText (r .length) (r .kind)
+    ascii "ReqId " ++ decimal (r .reqid) ++ ascii ": publisher " ++ publisherText (r .publisher) ++ lengthAndCountText r
 
 -- the first n rows
 unfoldable pub rowsText : List Row → ℕ → List ℕ

@@ -3,7 +3,7 @@ ghost use Prim.Native.Nat.{_≤_};
 ghost use Rattle.text.specs.Text.{Appended, Shown, Counts};
 ghost use Rattle.plan.specs.Limits.{maxNodes, maxRows};
 ghost use Rattle.reader.specs.Read.{readSet};
-ghost use Rattle.show_text.specs.Show.{timeLine, wakeUpTimesText, timesText, methodText, classAndMethodText, nodeLine, nodesText, publisherText, countText, lengthAndCountText, rowLine, rowsText, revisionLine, profileLine, planText, contentRuleText, ruleText, refusalText, answerText};
+ghost use Rattle.show_text.specs.Show.{timeLine, wakeUpTimesText, timesText, methodText, classAndMethodText, nodeLine, nodesText, publisherText, countText, lengthText, lengthAndCountText, rowLine, rowsText, revisionLine, profileLine, planText, contentRuleText, ruleText, refusalText, answerText};
 use plan::NodeEntry;
 use plan::Plan;
 use plan::Row;
@@ -101,23 +101,33 @@ fn append_publisher(buffer: &mut [u8], at: usize, publisher: u8) -> usize
     }
 }
 
-fn append_count(buffer: &mut [u8], at: usize, kind: u8) -> usize
-    ensures { λ r. ⌜ Appended at (countText kind) (now (buffer .entry)) (now (buffer .exit)) r ⌝ }
+fn append_count(buffer: &mut [u8], at: usize, counted: bool) -> usize
+    ensures { λ r. ⌜ Appended at (countText counted) (now (buffer .entry)) (now (buffer .exit)) r ⌝ }
 {
-    if kind == 0 {
-        append(buffer, at, b"without sequence count")
-    } else {
+    if counted {
         append(buffer, at, b"with sequence count")
+    } else {
+        append(buffer, at, b"without sequence count")
     }
 }
 
-fn append_length_and_count(buffer: &mut [u8], at: usize, length: u8, kind: u8) -> usize
-    ensures { λ r. ⌜ Appended at (lengthAndCountText length kind) (now (buffer .entry)) (now (buffer .exit)) r ⌝ }
+fn append_length(buffer: &mut [u8], at: usize, variable: bool) -> usize
+    ensures { λ r. ⌜ Appended at (lengthText variable) (now (buffer .entry)) (now (buffer .exit)) r ⌝ }
 {
-    let a = append(buffer, at, b", length ");
-    let b = append_decimal(buffer, a, length as u64);
+    if variable {
+        append(buffer, at, b", length up to ")
+    } else {
+        append(buffer, at, b", length ")
+    }
+}
+
+fn append_length_and_count(buffer: &mut [u8], at: usize, row: Row) -> usize
+    ensures { λ r. ⌜ Appended at (lengthAndCountText row) (now (buffer .entry)) (now (buffer .exit)) r ⌝ }
+{
+    let a = append_length(buffer, at, row.is_variable());
+    let b = append_decimal(buffer, a, row.length as u64);
     let c = append(buffer, b, b", ");
-    let d = append_count(buffer, c, kind);
+    let d = append_count(buffer, c, row.is_counted());
     append(buffer, d, b"\n")
 }
 
@@ -128,7 +138,7 @@ fn append_row(buffer: &mut [u8], at: usize, row: Row) -> usize
     let b = append_decimal(buffer, a, row.reqid as u64);
     let c = append(buffer, b, b": publisher ");
     let d = append_publisher(buffer, c, row.publisher);
-    append_length_and_count(buffer, d, row.length, row.kind)
+    append_length_and_count(buffer, d, row)
 }
 
 fn append_rows(buffer: &mut [u8], at: usize, rows: [Row; Plan::ROWS], count: usize) -> usize

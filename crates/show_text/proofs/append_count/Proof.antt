@@ -1,5 +1,4 @@
 -- By the test. Assumes nothing.
-use borrow.Author.Tests.{eq-eqb, ne-eqb}
 use Rattle.text.proofs.Appends.{appended-as}
 use Rattle.show_text.specs.Show.{countText}
 use borrow.Author.Needs.{needs}
@@ -23,14 +22,14 @@ same-length c = search needs
 
 returns : tie.Need-returns
 unfolding countText
-returns c = appended-as (rw (eq-eqb _ _ (c .before .before .before .before .before .if1 .taken))) (c .before .before .append .ensures)
+returns c = appended-as (rw (c .before .before .before .before .before .if1 .taken)) (c .before .before .append .ensures)
 
 same-length-2 : tie.Need-same-length-2
 same-length-2 c = search needs
 
 returns-2 : tie.Need-returns-2
 unfolding countText
-returns-2 c = appended-as (rw (ne-eqb _ _ (c .before .before .before .before .before .if1 .left))) (c .before .before .append2 .ensures)
+returns-2 c = appended-as (rw (c .before .before .before .before .before .if1 .left)) (c .before .before .append2 .ensures)
 
 pub append-count-spec : {M : Type 1} → statement M
 append-count-spec =

@@ -11,17 +11,17 @@ enum-told-2 c = search needs
 enum-known-command : tie.Need-enum-known-command
 enum-known-command c = search needs
 
-enum-told-3 : tie.Need-enum-told-3
-enum-told-3 c = search needs
-
-cast-t10 : tie.Need-cast-t10
-cast-t10 c = search needs
-
 enum-known-fate : tie.Need-enum-known-fate
 enum-known-fate c = search needs
 
-enum-told-4 : tie.Need-enum-told-4
-enum-told-4 c = search needs
+sent-length-requires : tie.Need-sent-length-requires
+sent-length-requires c κs = search needs
+
+enum-known-fate-2 : tie.Need-enum-known-fate-2
+enum-known-fate-2 c = search needs
+
+enum-told-3 : tie.Need-enum-told-3
+enum-told-3 c = search needs
 
 returns : tie.Need-returns
 returns c = search needs
@@ -32,15 +32,16 @@ returns-2 c = search needs
 returns-3 : tie.Need-returns-3
 returns-3 c =
     rw (
-      c .before .before .before .before .command .given .1,
-      c .before .enum-told3 .given .1,
+        c .sent-length .ensures,
+        c .before .before .before .before .before .command .given .1,
+        c .before .before .fate .given .1,
     )
 
 returns-4 : tie.Need-returns-4
 returns-4 c =
     rw (
-      c .before .before .before .before .command .given .1,
-      c .before .fate .given .1,
+        c .before .before .before .before .command .given .1,
+        c .before .fate2 .given .1,
     )
 
 returns-5 : tie.Need-returns-5
@@ -53,10 +54,10 @@ carried-spec =
     enum-told
     enum-told-2
     enum-known-command
-    enum-told-3
-    cast-t10
     enum-known-fate
-    enum-told-4
+    sent-length-requires
+    enum-known-fate-2
+    enum-told-3
     returns
     returns-2
     returns-3
