@@ -8,7 +8,7 @@ use Rattle.bus.specs.declared.Fate.{Fate}
 use Rattle.text.specs.Text.{ascii}
 use Rattle.drill_line.specs.declared.Line.{Line}
 use Rattle.drill_line.specs.Words.{same, cut}
-use Rattle.drill_line.specs.Parse.{damaged, parseLine}
+use Rattle.drill_line.specs.Parse.{whole, damaged, parseLine}
 
 abbrev judged : List String → List Line
 judged lines = map (λ line. parseLine (ascii line) 16) lines
