@@ -1,4 +1,4 @@
-/* The largest plan there is: 16 nodes, rows 1 to 127 spread over the nodes and the master, with and without counts.
+/* The largest plan there is: 16 nodes, rows 1 to 127 of all four kinds, spread over the nodes and the master.
  *
  * Compile: gcc -std=c11 -O2 -Wall -Wextra -Werror -pedantic -c tests/independent/big_plan.c */
 #include "big_plan.h"
@@ -20,6 +20,6 @@ void reference_big_plan(reference_plan *plan) {
         plan->rows[place] = (reference_row){.reqid = (uint8_t)(place + 1),
                                             .publisher = turn < REFERENCE_NODES ? (uint8_t)turn : REFERENCE_MASTER_PUBLISHER,
                                             .length = (uint8_t)(place * 2),
-                                            .counted = place % 3 != 0};
+                                            .kind = (uint8_t)(place % 4)};
     }
 }

@@ -96,13 +96,18 @@ static void spread_pulses(const reference_plan *plan, reference_world *world, co
     }
 }
 
-/* Whole with the row's own length; damaged with the ReqId kept and all else as the move says. */
+/* A fixed row has the row's own length, a variable one what the move says, or its own where that is above it. */
+static uint16_t whole_length(const reference_row *row, const reference_move *move) {
+    return reference_row_is_variable(row) && move->length < row->length ? move->length : row->length;
+}
+
+/* Whole with a length that the row accepts; damaged with the ReqId kept and all else as the move says. */
 static uint32_t deliver_answer(const reference_plan *plan, reference_world *world, const reference_move *move,
                                const reference_node_reply *sent) {
     reference_master_event event = {.kind = REFERENCE_MASTER_ANSWER, .reqid = move->value};
     switch (move->fate) {
     case REFERENCE_WHOLE:
-        event.length = reference_find_row(plan, move->value)->length;
+        event.length = whole_length(reference_find_row(plan, move->value), move);
         event.count = sent->count;
         event.permission = sent->permission;
         event.wake = sent->wake;

@@ -32,9 +32,9 @@ typedef struct {
     uint16_t reached;     /* by a request or a sleep message, bit i for node i */
     uint16_t hearing;     /* nodes that hear a wake-up pulse of another, bit i for node i */
     uint8_t master_hears; /* a wake-up pulse */
-    uint16_t result;      /* from here on: of a damaged answer */
-    uint16_t length;
-    uint8_t count;
+    uint16_t result;      /* of a damaged answer */
+    uint16_t length;      /* likewise; and of a whole one of a variable row, not above the row's */
+    uint8_t count;        /* from here on: of a damaged answer */
     uint8_t permission;
     uint8_t wake;
 } reference_move;

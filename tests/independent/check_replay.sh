@@ -82,6 +82,8 @@ fault bus.c '/^static uint32_t act_send_result/,/^}/s/if (refusal != 0)/if (refu
 fault bus.c 's/REFERENCE_REQIDS || /REFERENCE_REQIDS || reference_clock_is_on(world) \&\& /' # 16 before 15
 fault bus.c 's/move->count <= 3/move->count < 3/'
 fault bus.c 's/move->wake <= 1/true/'
+fault bus.c 's/reference_row_is_variable(row) && //' # a fixed row in another length
+fault bus.c 's/ && move->length < row->length//' # a variable row's above its own
 fault reference.c 's/permission->age > plan->times.window/permission->age >= plan->times.window/'
 fault reference.c '/^static void tick_with_clock/,/^}/s/node->quiet_count = 0;//'
 fault reference.c '/^static void send_answer/,/^}/s/node->wake = 0;//'
@@ -99,4 +101,11 @@ fault reference.c '/^void reference_node_power_on/,/^}/s/state_at_power_on(plan)
 fault reference.c '/^static uint8_t state_at_power_on/,/^}/s/never_sleeps(plan)/false/'
 fault reference.c '/^uint32_t reference_master_act/,/^}/s/never_sleeps(plan)/false/'
 fault reference.c '/^uint32_t reference_master_act/,/^}/s/never_sleeps(plan)/& \&\& master->own_permission/' # 19 before 25
+fault reference.c 's/row->kind > REFERENCE_VARIABLE_COUNTED/row->kind > REFERENCE_FIXED_COUNTED/' # no set with a variable row
+row='/^static bool row_accepts/,/^}/'
+fault reference.c "$row s/length <= row->length/length < row->length/"
+fault reference.c "$row s/reference_row_is_variable(row)/false/"
+fault reference.c "$row s/length <= row->length/length <= row->length \&\& length > 0/"
+fault reference.c '/^bool reference_row_is_counted/,/^}/s/ || row->kind == REFERENCE_VARIABLE_COUNTED//'
+fault reference.c '/^bool reference_row_is_counted/,/^}/s/REFERENCE_VARIABLE_COUNTED/REFERENCE_VARIABLE/'
 echo "$found faults, each found by the comparison"

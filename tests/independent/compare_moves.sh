@@ -51,10 +51,10 @@ field() {
         echo 'move or not'
     elif [ $at -eq 1 ]; then
         echo 'refusal'
-    elif [ $at -lt 187 ]; then
+    elif [ $at -lt 203 ]; then
         echo "master, byte $((at - 2))"
     else
-        echo "node $(((at - 187) / 143)), byte $(((at - 187) % 143))"
+        echo "node $(((at - 203) / 143)), byte $(((at - 203) % 143))"
     fi
 }
 

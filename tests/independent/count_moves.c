@@ -16,6 +16,7 @@ static const char *const act_names[REFERENCE_ACTS] = {
     "ask to send", "sleep ask",          "send result"};
 static const char *const state_names[] = {"Normal", "Standby", "Sleep"};
 static const char *const phase_names[] = {"Open", "Sending", "Withdrawn", "Closing"};
+static const char *const row_names[] = {"fixed row", "fixed row with count", "variable row", "variable row with count"};
 
 static uint64_t told[REFERENCE_ACTS][REFUSALS];
 static uint64_t no_moves;
@@ -167,6 +168,12 @@ static void count_nodes(const deed *done) {
     }
 }
 
+/* The length that the move gives, beside the row's. */
+static const char *length_beside(const deed *done, const reference_row *row) {
+    uint16_t length = done->move->length;
+    return length == row->length ? "row's length" : length > row->length ? "longer" : length == 0 ? "none" : "shorter";
+}
+
 /* The publisher's answer, told by the wake bit and count that it takes from its node. */
 static void count_answer(const deed *done) {
     const reference_row *row = reference_find_row(done->plan, done->move->value);
@@ -182,8 +189,9 @@ static void count_answer(const deed *done) {
     switch (done->move->fate) {
     case REFERENCE_WHOLE:
         count("whole answer", sender->wake ? "wake bit" : sender->permission ? "permission" : "refusing", phase);
+        count("whole answer's length", row_names[row->kind], length_beside(done, row));
         uint8_t last = done->before->master.last_counts[row->reqid];
-        if (row->counted) {
+        if (reference_row_is_counted(row)) {
             const char *after_last = ((counted - last - 1) & 3) == 0 ? "next" : "some lost";
             count("whole answer's count", last == REFERENCE_NO_COUNT ? "first" : after_last, "");
         } else {
@@ -196,7 +204,7 @@ static void count_answer(const deed *done) {
               done->move->wake         ? "wake bit"
               : done->move->permission ? "permission"
                                        : "no permission",
-              done->move->length == row->length ? "row's length" : "another length");
+              length_beside(done, row));
         break;
     default:
         count("lost answer", sender->wake ? "wake bit" : sender->permission ? "permission" : "refusing", phase);

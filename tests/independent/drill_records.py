@@ -1,17 +1,19 @@
 #!/usr/bin/env python3
-"""Reads a drill's moves from standard input and writes them as recorded moves: messages reach all nodes, pulses reach everybody.
+"""Reads a drill's moves from standard input and writes them as recorded moves: messages reach all nodes, pulses reach everybody, and an
+answer has its row's own length.
 
 Run: python3 tests/independent/drill_records.py < moves > records
 A program that replays the records must print what the drill prints of the moves. Lines that are no moves have no record and are refused."""
 import sys
 
 ALL, NONE = b"\xff\xff", b"\0\0"
+ROWS_OWN = b"\xff\xff"  # a length above every row's
 FATES = {"ok": 0, "bad": 1, "lost": 2}
 
 
 def record(act, node=0, value=0, fate=0, reached=ALL):
     result = 1 if fate == FATES["bad"] else 0
-    return bytes([act, node, value, fate]) + reached + ALL + bytes([1, 0, result]) + bytes(5)
+    return bytes([act, node, value, fate]) + reached + ALL + bytes([1, 0, result]) + ROWS_OWN + bytes(3)
 
 
 def record_of(line):

@@ -152,7 +152,7 @@ static void make_rows(maker *make) {
             row->reqid = (uint8_t)reqid;
             row->publisher = publishers[made];
             row->length = chance(make, 20) ? 255 : (uint8_t)below(make, 13);
-            row->counted = chance(make, 60);
+            row->kind = (uint8_t)below(make, REFERENCE_VARIABLE_COUNTED + 1);
             made++;
         }
     }
@@ -277,16 +277,21 @@ static uint8_t reqid_of(maker *make, uint8_t node) {
     return own[below(make, rows)];
 }
 
+/* Mostly a length about the row's, at the edges of what a variable row accepts; a number that is too small by one is too large. */
+static void choose_length(maker *make, reference_move *move) {
+    const reference_row *row = reference_find_row(&make->plan, move->value);
+    if (row != NULL && chance(make, 80)) {
+        const uint16_t lengths[] = {0, (uint16_t)(row->length - 1), row->length, row->length + 1, 255, row->length + 256};
+        move->length = lengths[below(make, sizeof lengths / sizeof lengths[0])];
+    }
+}
+
 /* Damage of every kind, now and then one that no bus does. */
 static void damage(maker *make, reference_move *move) {
     static const uint16_t results[] = {1, 255, 256, 65535};
-    const reference_row *row = reference_find_row(&make->plan, move->value);
     move->fate = REFERENCE_DAMAGED;
     move->result = chance(make, 50) ? results[below(make, 4)] : (uint16_t)between(make, 1, 65535);
     move->count = (uint8_t)below(make, 4);
-    if (row != NULL && chance(make, 40)) {
-        move->length = row->length;
-    }
     if (chance(make, 4)) {
         move->result = 0;
     }
@@ -296,6 +301,7 @@ static void damage(maker *make, reference_move *move) {
 }
 
 static void choose_fate(maker *make, reference_move *move, uint32_t whole_percent) {
+    choose_length(make, move);
     if (chance(make, whole_percent)) {
         move->fate = REFERENCE_WHOLE;
     } else if (chance(make, 60)) {
@@ -409,6 +415,7 @@ static void any_moves(maker *make, uint32_t number) {
         }
         if (move.act == REFERENCE_ACT_REQUEST || move.act == REFERENCE_ACT_SEND) {
             move.value = some_reqid(make);
+            choose_length(make, &move);
         }
         put_move(make, &move);
     }

@@ -1,4 +1,4 @@
-/* Document 01 in plain C, mended by W-204, with W-205 and W-206: the reader and writer of release sets, the master machine and the node
+/* Document 01 in plain C, mended by W-204, with W-205 to W-207: the reader and writer of release sets, the master machine and the node
  * machine.
  *
  * Compile: gcc -std=c11 -O2 -Wall -Wextra -Werror -pedantic -c tests/independent/reference.c */
@@ -92,7 +92,7 @@ static bool rows_are_right(const reference_plan *plan) {
         if (row->publisher >= plan->node_count && row->publisher != REFERENCE_MASTER_PUBLISHER) {
             return false;
         }
-        if (row->counted > 1) {
+        if (row->kind > REFERENCE_VARIABLE_COUNTED) {
             return false;
         }
     }
@@ -146,6 +146,19 @@ const reference_row *reference_find_row(const reference_plan *plan, uint8_t reqi
         }
     }
     return low < plan->row_count && plan->rows[low].reqid == reqid ? &plan->rows[low] : NULL;
+}
+
+bool reference_row_is_counted(const reference_row *row) {
+    return row->kind == REFERENCE_FIXED_COUNTED || row->kind == REFERENCE_VARIABLE_COUNTED;
+}
+
+bool reference_row_is_variable(const reference_row *row) {
+    return row->kind == REFERENCE_VARIABLE || row->kind == REFERENCE_VARIABLE_COUNTED;
+}
+
+/* "such a row accepts any length up to its own"; a fixed row its own alone */
+static bool row_accepts(const reference_row *row, uint16_t length) {
+    return reference_row_is_variable(row) ? length <= row->length : length == row->length;
 }
 
 /* Reading a set */
@@ -322,7 +335,7 @@ static void write_message_block(const reference_plan *plan, size_t first, size_t
         bytes[0] = row->reqid;
         bytes[1] = row->publisher;
         bytes[2] = row->length;
-        bytes[3] = row->counted;
+        bytes[3] = row->kind;
     }
     close_block(block);
 }
@@ -505,12 +518,12 @@ static uint32_t master_answer(const reference_plan *plan, reference_master *mast
     if (row == NULL || row->publisher == REFERENCE_MASTER_PUBLISHER) {
         return 12;
     }
-    if (event->result != 0 || event->length != row->length) {
+    if (event->result != 0 || !row_accepts(row, event->length)) {
         let_go(master, row->publisher, REFERENCE_CAUSE_DAMAGED);
         call_back(master);
         return event->result != 0 ? 13 : 14;
     }
-    if (row->counted) {
+    if (reference_row_is_counted(row)) {
         reply->lost = store_count(master, event->reqid, event->count);
     }
     if (event->wake) {

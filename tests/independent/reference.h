@@ -26,11 +26,14 @@ typedef struct {
     uint8_t zero;
 } reference_node_entry;
 
+/* Document 01's two kinds of row and W-207's: whether its answers carry a sequence count, and whether they may be shorter than planned. */
+enum { REFERENCE_FIXED, REFERENCE_FIXED_COUNTED, REFERENCE_VARIABLE, REFERENCE_VARIABLE_COUNTED };
+
 typedef struct {
     uint8_t reqid;
     uint8_t publisher;
     uint8_t length;
-    uint8_t counted;
+    uint8_t kind;
 } reference_row;
 
 /* Document 01's seven times, in the order of the set. */
@@ -178,6 +181,10 @@ uint32_t reference_plan_refusal(const reference_plan *plan);
 
 /* The row of a ReqId, or null. */
 const reference_row *reference_find_row(const reference_plan *plan, uint8_t reqid);
+
+/* What the kind of a right row says. */
+bool reference_row_is_counted(const reference_row *row);
+bool reference_row_is_variable(const reference_row *row);
 
 /* Power-on under an accepted plan; the all-zero record of a refused set serves as one without W-206's profile. */
 void reference_master_power_on(const reference_plan *plan, reference_master *master);

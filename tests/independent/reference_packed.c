@@ -71,7 +71,7 @@ static void take_plan(const uint8_t *bytes, size_t length, reference_plan *plan)
 }
 
 uint32_t reference_cxpi_version(void) {
-    return 5;
+    return 6;
 }
 
 uint32_t reference_cxpi_read(const uint8_t *set, size_t set_length, uint8_t *plan, size_t plan_length) {

@@ -21,13 +21,14 @@ WORDS = ["16", "profile", "none", "sleep", "owed", "own", "new", "refused", "age
 
 
 def random_set(chance):
-    """Up to sixteen nodes, and times so short that windows, stops and sleeps come in short lists; one set in six never sleeps."""
+    """Up to sixteen nodes, rows of all four kinds, and times so short that windows, stops and sleeps come in short lists; one set in six
+    never sleeps."""
     count = chance.choice([1, 1, 2, 2, 3, 5, 16])
     window, *others = chance.choice([1, 2, 3, 10, 40]), *(chance.randint(1, 6) for _ in range(6))
     others[1] = max(others[:2])
     nodes = [(node + 1, 1, chance.randrange(2)) for node in range(count)]
     publishers = chance.sample([*range(count), *chance.choices([MASTER, *range(count)], k=3)], count + 3)
-    rows = [(16 + row, publisher, 2, chance.randrange(2)) for row, publisher in enumerate(publishers)]
+    rows = [(16 + row, publisher, chance.choice([0, 2, 255]), chance.randrange(4)) for row, publisher in enumerate(publishers)]
     return plan_set(7, [window, *others], nodes, rows, profile=int(chance.random() < 1 / 6))
 
 
