@@ -48,7 +48,7 @@ extern "C" {
 #endif
 
 /* The version of calls and layouts, which each change of either raises. A host compares the archive's with its header's at start. */
-#define CXPI_VERSION 5
+#define CXPI_VERSION 6
 
 uint32_t cxpi_version(void);
 
@@ -67,7 +67,7 @@ uint32_t cxpi_version(void);
 #define CXPI_NO_STATE 11      /* bytes that are no state or no identity, a state out of range, or a node number not below N */
 #define CXPI_NO_REQID 12      /* ReqId not in the plan; a master's row in an answer; another's row in an ask to send */
 #define CXPI_DAMAGED 13       /* answer's result is not 0; the master lets its publisher's permission go and calls back */
-#define CXPI_WRONG_LENGTH 14  /* answer's length is not the row's; the same */
+#define CXPI_WRONG_LENGTH 14  /* answer's length is not a fixed row's, or is above a variable row's; the same */
 #define CXPI_NO_EVENT 15      /* bytes that are no event, a count above 3 or a ReqId above 127 */
 #define CXPI_NEEDS_NORMAL 16  /* event needs Normal, and so does cxpi_master_why */
 #define CXPI_NO_RESULT_DUE 17 /* no send result awaited */
@@ -120,8 +120,14 @@ uint32_t cxpi_version(void);
 #define CXPI_ROW_REQID_AT 0       /* 1 to 127 */
 #define CXPI_ROW_PUBLISHER_AT 1   /* a node number below N, or CXPI_MASTER_PUBLISHES */
 #define CXPI_ROW_DATA_LENGTH_AT 2 /* 0 to 255 */
-#define CXPI_ROW_COUNTED_AT 3     /* 1 if it carries a sequence count, else 0 */
+#define CXPI_ROW_KIND_AT 3        /* CXPI_FIXED, CXPI_FIXED_COUNTED, CXPI_VARIABLE or CXPI_VARIABLE_COUNTED */
 #define CXPI_MASTER_PUBLISHES 255
+
+/* The kinds of a row. An answer of a fixed row has the row's length; one of a variable row any length up to it, 0 too. */
+#define CXPI_FIXED 0
+#define CXPI_FIXED_COUNTED 1    /* fixed, with a sequence count */
+#define CXPI_VARIABLE 2
+#define CXPI_VARIABLE_COUNTED 3 /* variable, with a sequence count */
 
 /* Reads a set into a plan record. */
 uint32_t cxpi_read(const uint8_t *set, size_t set_length, uint8_t *plan, size_t plan_length);
@@ -157,7 +163,7 @@ uint32_t cxpi_write(const uint8_t *plan, size_t plan_length, uint8_t *set, size_
 #define CXPI_CAUSE_NEW 0     /* no answer since Normal */
 #define CXPI_CAUSE_REFUSED 1 /* an answer without permission */
 #define CXPI_CAUSE_AGED 2    /* no answer within W */
-#define CXPI_CAUSE_DAMAGED 3 /* an answer damaged or of a wrong length */
+#define CXPI_CAUSE_DAMAGED 3 /* an answer damaged or of a length that its row does not accept */
 #define CXPI_CAUSE_WAKE 4    /* a wake-up let it go, or its answer carried one */
 
 /* A node's permission as the master has it. */
@@ -187,7 +193,7 @@ uint32_t cxpi_master_power_on(const uint8_t *plan, size_t plan_length, uint8_t *
 /* The event of an answer. */
 #define CXPI_ANSWER_REQID_AT 1       /* 0 to 127 */
 #define CXPI_ANSWER_RESULT_AT 2      /* two bytes: 0 if the answer came whole, any other number if not */
-#define CXPI_ANSWER_DATA_LENGTH_AT 4 /* two bytes */
+#define CXPI_ANSWER_DATA_LENGTH_AT 4 /* two bytes: as received, judged by the row's kind */
 #define CXPI_ANSWER_COUNT_AT 6       /* sequence count, 0 to 3; ignored where the row carries none */
 #define CXPI_ANSWER_PERMISSION_AT 7  /* permission bit, 0 or 1 */
 #define CXPI_ANSWER_WAKE_AT 8        /* wake bit, 0 or 1 */

@@ -40,7 +40,7 @@ static inline const char *cxpi_refusal_text(uint32_t number) {
     case CXPI_DAMAGED:
         return "the answer's result is not 0";
     case CXPI_WRONG_LENGTH:
-        return "the answer's length is not the row's";
+        return "the answer's length is not one that its row accepts";
     case CXPI_NO_EVENT:
         return "the event's count is above 3 or its ReqId above 127, or it is no event";
     case CXPI_NEEDS_NORMAL:
