@@ -45,6 +45,7 @@ static uint64_t lengths[2];             /* of sets written: 1,024 and 1,536 */
 static uint64_t named[REFERENCE_NODES]; /* by 20 */
 static uint64_t commands[2][4];         /* of the master, of a node */
 static uint64_t lost[4];
+static uint64_t judged_lengths[4][3]; /* of answers neither damaged nor otherwise refused, by kind of row: shorter, the row's, longer */
 static uint64_t round_trips;
 static uint64_t power_ons[2]; /* by profile */
 static uint64_t batch_events; /* in lists that were not refused */
@@ -104,7 +105,7 @@ static void random_rows(reference_plan *plan) {
         if (below(128 - reqid) < left) {
             plan->rows[plan->row_count - left] =
                 (reference_row){(uint8_t)reqid, percent(15) ? REFERENCE_MASTER_PUBLISHER : (uint8_t)below(plan->node_count),
-                                percent(50) ? (uint8_t)below(4) : random_byte(), (uint8_t)below(2)};
+                                percent(50) ? (uint8_t)below(4) : random_byte(), (uint8_t)below(REFERENCE_VARIABLE_COUNTED + 1)};
             left--;
         }
     }
@@ -134,7 +135,7 @@ static void break_plan(const reference_plan *plan, uint8_t *bytes) {
     uint8_t *node = bytes + 19 + 4 * below(plan->node_count);
     uint8_t *row = bytes + 83 + 4 * below(plan->row_count);
     uint8_t silent = (uint8_t)below(plan->node_count);
-    switch (below(10)) {
+    switch (below(11)) {
     case 0:
         put_two(bytes, 0);
         break;
@@ -162,6 +163,9 @@ static void break_plan(const reference_plan *plan, uint8_t *bytes) {
         break;
     case 8:
         bytes[CXPI_PLAN_PROFILE_AT] = percent(50) ? 2 : another_byte(bytes[CXPI_PLAN_PROFILE_AT]);
+        break;
+    case 9: /* a kind about the last */
+        row[CXPI_ROW_KIND_AT] = (uint8_t)between(2, 5);
         break;
     default: /* a node's rows become the master's */
         for (size_t place = 0; place < plan->row_count; place++) {
@@ -534,12 +538,22 @@ static uint8_t random_flag(uint32_t share) {
     return percent(1) ? random_byte() : percent(share);
 }
 
+/* Mostly a length that the row accepts, else one at the edges of what it does. */
+static uint32_t random_length(const reference_row *row) {
+    uint32_t own = row->length;
+    const uint32_t edges[] = {0, own - 1, own, own + 1, 255, own + 256};
+    if (percent(94)) {
+        return reference_row_is_variable(row) && percent(60) ? below(own + 1) : own;
+    }
+    return percent(80) ? edges[below(sizeof edges / sizeof edges[0])] : below(65536);
+}
+
 static size_t random_answer_event(const reference_plan *plan, uint8_t *event) {
     const reference_row *row = random_row(plan);
     event[0] = CXPI_MASTER_ANSWER;
     event[1] = percent(95) ? row->reqid : random_reqid(plan);
     put_two(event + 2, percent(94) ? 0 : percent(50) ? 256 : below(65536));
-    put_two(event + 4, percent(94) ? row->length : percent(50) ? row->length + 256u : below(65536));
+    put_two(event + 4, random_length(row));
     event[6] = (uint8_t)(percent(99) ? below(4) : random_byte());
     event[7] = random_flag(90);
     event[8] = random_flag(4);
@@ -702,6 +716,14 @@ static void count_step(int export, uint32_t wanted) {
     }
 }
 
+static void count_length(const reference_plan *plan, const uint8_t *event) {
+    if (event[0] == CXPI_MASTER_ANSWER) {
+        const reference_row *row = reference_find_row(plan, event[1]);
+        uint32_t length = (uint32_t)event[4] << 8 | event[5];
+        judged_lengths[row->kind][length < row->length ? 0 : length == row->length ? 1 : 2]++;
+    }
+}
+
 static void compare_master_step(network *walked) {
     static step made;
     const reference_plan *plan = &walked->plan->record;
@@ -716,6 +738,9 @@ static void compare_master_step(network *walked) {
         reference_cxpi_master_step(lent_bytes(&reference_step_plan), made.plan_length, lent_bytes(&reference_state), made.state_length,
                                    lent_bytes(&reference_event), made.event_length, lent_bytes(&reference_reply), made.reply_length);
     count_step(MASTER_STEP, wanted);
+    if (made.plan == walked->plan->bytes && (wanted == CXPI_DONE || wanted == CXPI_WRONG_LENGTH)) {
+        count_length(plan, made.event);
+    }
     if (got != wanted || !step_same()) {
         differ(MASTER_STEP, got, wanted);
     }
@@ -928,6 +953,10 @@ static bool print_table(bool sets, bool steps) {
         all = print_counts("20 by node named", named, REFERENCE_NODES) && all;
         all = print_counts("master's commands", commands[0], 4) && all;
         all = print_counts("lost 0 to 3", lost, 4) && all;
+        all = print_counts("lengths of fixed rows", judged_lengths[REFERENCE_FIXED], 3) && all;
+        all = print_counts("with count", judged_lengths[REFERENCE_FIXED_COUNTED], 3) && all;
+        all = print_counts("lengths of variable rows", judged_lengths[REFERENCE_VARIABLE], 3) && all;
+        all = print_counts("with count", judged_lengths[REFERENCE_VARIABLE_COUNTED], 3) && all;
         all = print_counts("node's commands", commands[1], 3) && all;
         all = print_counts("reasons", reasons, 6) && all;
         all = print_counts("nodes explained", explained, REFERENCE_NODES) && all;

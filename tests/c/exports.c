@@ -207,7 +207,12 @@ static void test_read_rows(void) {
     expect_refused_set("ReqId 128", EDITS({520, 128}), 7);
     expect_refused_set("publisher N", EDITS({521, 1}), 7);
     expect_refused_set("publisher 254", EDITS({521, 254}), 7);
-    expect_refused_set("count byte 2", EDITS({523, 2}), 7);
+    for (unsigned kind = 0; kind <= 3; kind++) {
+        expect_mended("a row of that kind", EDITS({523, (uint8_t)kind}), 0, EDITS({86, (uint8_t)kind}));
+    }
+    for (unsigned kind = 4; kind <= 255; kind++) {
+        expect_refused_set("kind above 3", EDITS({523, (uint8_t)kind}), 7);
+    }
     expect_refused_set("second row of zeros", EDITS({516, 2}), 7);
     expect_refused_set("the same ReqId twice", EDITS({516, 2}, {524, 16}), 7);
     expect_refused_set("a falling ReqId", EDITS({516, 2}, {524, 15}), 7);
@@ -227,7 +232,7 @@ static void test_read_order(void) {
     expect_refused_set("4 before 5", EDITS({515, 8}, {7, 0}), 4);
     expect_refused_set("5 before 6", EDITS({19, 0}, {4, 0}), 5);
     expect_refused_set("6 before 7", EDITS({35, 1}, {516, 0}), 6);
-    expect_refused_set("7 before 8", EDITS({521, 255}, {522, 0}, {523, 2}), 7);
+    expect_refused_set("7 before 8", EDITS({521, 255}, {522, 0}, {523, 4}), 7);
     expect_refused_set("8 before 9", EDITS({521, 255}, {20, 1}), 8);
     memcpy(set, set_t, sizeof set);
     apply(EDITS({20, 1}), set);
@@ -321,7 +326,8 @@ static const broken_plan broken_plans[] = {
     {"ReqId 0", EDITS({83, 0}), 7},
     {"ReqId 128", EDITS({83, 128}), 7},
     {"publisher N", EDITS({84, 1}), 7},
-    {"count byte 2", EDITS({86, 2}), 7},
+    {"kind 4", EDITS({86, 4}), 7},
+    {"kind 255", EDITS({86, 255}), 7},
     {"second row of zeros", EDITS({4, 2}), 7},
     {"the same ReqId twice", EDITS({4, 2}, {87, 16}), 7},
     {"a silent node", EDITS({84, 255}), 8},
@@ -330,7 +336,7 @@ static const broken_plan broken_plans[] = {
     {"4 before 5", EDITS({1, 0}, {6, 0}), 4},
     {"5 before 6", EDITS({6, 0}, {2, 0}), 5},
     {"6 before 7", EDITS({20, 0}, {83, 0}), 6},
-    {"7 before 8", EDITS({84, 255}, {86, 2}), 7},
+    {"7 before 8", EDITS({84, 255}, {86, 4}), 7},
 };
 
 enum { BROKEN_PLANS = sizeof broken_plans / sizeof broken_plans[0] };
@@ -363,7 +369,7 @@ static void test_write_refusals(void) {
     end_group("write: refusals");
 }
 
-/* Plan T with that many rows, ReqIds from 1 on, all of node 0 without counts; and the set of it by hand. */
+/* Plan T with that many rows, ReqIds from 1 on, all of node 0, of the four kinds in turn; and the set of it by hand. */
 static void make_rows(unsigned rows, uint8_t *plan, uint8_t *set) {
     memcpy(plan, plan_t, CXPI_PLAN_LENGTH);
     memset(set, 0, CXPI_SET_LENGTH_TWO);
@@ -375,7 +381,7 @@ static void make_rows(unsigned rows, uint8_t *plan, uint8_t *set) {
         set[1028] = (uint8_t)(rows - 100);
     }
     for (unsigned row = 0; row < rows; row++) {
-        uint8_t bytes[4] = {(uint8_t)(row + 1), 0, (uint8_t)(2 * row), 0};
+        uint8_t bytes[4] = {(uint8_t)(row + 1), 0, (uint8_t)(2 * row), (uint8_t)(row % 4)};
         memcpy(plan + 83 + 4 * row, bytes, 4);
         memcpy(set + (row < 100 ? 520 + 4 * row : 1032 + 4 * (row - 100)), bytes, 4);
     }
@@ -411,6 +417,7 @@ static void test_two_blocks(void) {
     expect_damaged_two("255 rows in the second", EDITS({1028, 255}), 7);
     expect_damaged_two("ReqId not rising over blocks", EDITS({1032, 100}), 7);
     expect_damaged_two("publisher in the second", EDITS({1033, 1}), 7);
+    expect_damaged_two("kind in the second", EDITS({1035, 4}), 7);
     expect_damaged_two("filler in the second", EDITS({1029, 1}), 9);
     expect_damaged_two("filler behind the rows of the second", EDITS({1072, 1}), 9);
     expect_damaged_two("last filler of the second", EDITS({1533, 1}), 9);
@@ -473,6 +480,7 @@ static void test_power_on(void) {
 
 static uint8_t plan_u[CXPI_PLAN_LENGTH];
 static uint8_t truck_u[CXPI_PLAN_LENGTH]; /* the same of panels that never sleep */
+static uint8_t plan_v[CXPI_PLAN_LENGTH];  /* plan U with variable rows: 16 with a count, of 2 bytes at most, 17 without one, of 255 */
 static const uint8_t *stepped_plan = plan_u;
 
 static void make_plan_u(void) {
@@ -481,6 +489,8 @@ static void make_plan_u(void) {
     apply(EDITS({87, 17}, {88, 1}, {89, 0}, {90, 0}, {91, 32}, {92, 255}, {93, 1}, {94, 1}), plan_u);
     memcpy(truck_u, plan_u, sizeof truck_u);
     truck_u[CXPI_PLAN_PROFILE_AT] = 1;
+    memcpy(plan_v, plan_u, sizeof plan_v);
+    apply(EDITS({86, 3}, {89, 255}, {90, 2}), plan_v);
 }
 
 /* A step as it is lent; the state's machine is the master, or a node of that number. */
@@ -728,6 +738,59 @@ static void test_master_answer(void) {
     master_refuses("in Standby", EDITS({M_STATE, 1}), ANSWER(18, 0, 2, 0, 1, 0), 16);
     master_refuses("in Sleep", EDITS({M_STATE, 2}), ANSWER(16, 0, 2, 0, 1, 0), 16);
     end_group("master: answer");
+}
+
+/* An answer of a length of two bytes. */
+#define ANSWER_OF(reqid, length, count, permission, wake) \
+    BYTES(1, reqid, 0, 0, (uint8_t)((length) >> 8), (uint8_t)(length), count, permission, wake)
+
+/* A fixed row takes its own length alone, one of none among them. */
+static void test_fixed_rows(void) {
+    for (unsigned length = 0; length <= 700; length++) {
+        if (length != 2) {
+            master_drops("another length than 2", EDITS({M_PHASE, 1}, {M_HELD_0, 1}), ANSWER_OF(16, length, 1, 1, 0), 14,
+                         EDITS({M_PHASE, 2}, {M_HELD_0, 0}, {M_CAUSE_0, 3}));
+        }
+        if (length != 0) {
+            master_drops("another length than 0", EDITS({M_HELD_1, 1}), ANSWER_OF(17, length, 1, 1, 0), 14,
+                         EDITS({M_HELD_1, 0}, {M_CAUSE_1, 3}));
+        }
+    }
+    end_group("master: fixed rows");
+}
+
+/* W-207: a variable row takes any length up to its own; all else is as of a fixed row. */
+static void test_variable_rows(void) {
+    stepped_plan = plan_v;
+    for (unsigned length = 0; length <= 2; length++) {
+        master_does("shorter, with count", EDITS({M_COUNTS + 16, 1}), ANSWER_OF(16, length, 1, 1, 0), EDITS({M_HELD_0, 1}), 0, 3);
+        master_does("shorter, first count", EDITS({M_CAUSE_0, 3}), ANSWER_OF(16, length, 2, 1, 0),
+                    EDITS({M_HELD_0, 1}, {M_CAUSE_0, 0}, {M_COUNTS + 16, 2}), 0, 0);
+        master_does("shorter, refusing", EDITS({M_PHASE, 3}, {M_DELAY, 1}, {M_HELD_0, 1}), ANSWER_OF(16, length, 0, 0, 0),
+                    EDITS({M_PHASE, 0}, {M_DELAY, 0}, {M_HELD_0, 0}, {M_CAUSE_0, 1}, {M_COUNTS + 16, 0}), 0, 0);
+        master_does("shorter, wake bit", EDITS({M_PHASE, 1}, {M_HELD_1, 1}), ANSWER_OF(16, length, 0, 1, 1),
+                    EDITS({M_PHASE, 2}, {M_HELD_1, 0}, {M_CAUSE_0, 4}, {M_CAUSE_1, 4}, {M_COUNTS + 16, 0}), 0, 0);
+        master_does("shorter, no call-back", EDITS({M_PHASE, 1}, {M_HELD_0, 1}, {M_AGE_0, 5}), ANSWER_OF(16, length, 0, 1, 0),
+                    EDITS({M_AGE_0, 0}, {M_COUNTS + 16, 0}), 0, 0);
+        master_drops("shorter and damaged", EDITS({M_HELD_0, 1}), ANSWER(16, 1, length, 0, 1, 0), 13,
+                     EDITS({M_HELD_0, 0}, {M_CAUSE_0, 3}));
+        master_refuses("shorter, count 4", EDITS({M_HELD_0, 1}), ANSWER_OF(16, length, 4, 1, 0), 15);
+        master_refuses("shorter, in Sleep", EDITS({M_STATE, 2}), ANSWER_OF(16, length, 0, 1, 0), 16);
+    }
+    for (unsigned length = 3; length <= 700; length++) {
+        master_drops("longer, with count", EDITS({M_PHASE, 3}, {M_DELAY, 1}, {M_HELD_0, 1}, {M_HELD_1, 1}, {M_COUNTS + 16, 1}),
+                     ANSWER_OF(16, length, 3, 1, 1), 14, EDITS({M_PHASE, 0}, {M_DELAY, 0}, {M_HELD_0, 0}, {M_CAUSE_0, 3}));
+    }
+    for (unsigned length = 0; length <= 255; length++) {
+        master_does("up to 255, no count", EDITS({M_COUNTS + 17, 1}), ANSWER_OF(17, length, 3, 1, 0), EDITS({M_HELD_1, 1}), 0, 0);
+    }
+    for (unsigned length = 256; length <= 700; length++) {
+        master_drops("above 255", EDITS({M_HELD_1, 1}), ANSWER_OF(17, length, 3, 1, 0), 14, EDITS({M_HELD_1, 0}, {M_CAUSE_1, 3}));
+    }
+    master_drops("length 65,535", NONE, ANSWER_OF(17, 65535, 0, 1, 0), 14, EDITS({M_CAUSE_1, 3}));
+    master_refuses("a master's row, shorter", EDITS({M_HELD_0, 1}), ANSWER(32, 0, 0, 0, 1, 0), 12);
+    stepped_plan = plan_u;
+    end_group("master: variable rows");
 }
 
 /* Edge 7: a tick on the state of edge 6, then the sleep ask. */
@@ -1461,7 +1524,7 @@ int main(int count, char **arguments) {
     if (count > 1) {
         test_file(arguments[1]);
     }
-    check(cxpi_version() == 5, "version");
+    check(cxpi_version() == 6, "version");
     end_group("version");
     test_read_lengths();
     test_read_bytes();
@@ -1476,6 +1539,8 @@ int main(int count, char **arguments) {
     test_power_on();
     test_master_tick();
     test_master_answer();
+    test_fixed_rows();
+    test_variable_rows();
     test_named_nodes();
     test_master_others();
     test_master_range();

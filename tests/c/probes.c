@@ -128,7 +128,7 @@ static void probe_plan(void) {
         IS(row[CXPI_ROW_REQID_AT] == rows[place][0]);
         IS(row[CXPI_ROW_PUBLISHER_AT] == (place < 3 ? place : CXPI_MASTER_PUBLISHES));
         IS(row[CXPI_ROW_DATA_LENGTH_AT] == rows[place][2]);
-        IS(row[CXPI_ROW_COUNTED_AT] == (place % 2 == 0 && place < 3));
+        IS(row[CXPI_ROW_KIND_AT] == (place % 2 == 0 && place < 3 ? CXPI_FIXED_COUNTED : CXPI_FIXED));
     }
     IS(plan[CXPI_PLAN_PROFILE_AT] == 0 && is_painted(plan, CXPI_PLAN_LENGTH));
     IS(cxpi_read(set, 1024, plan, CXPI_PLAN_LENGTH) == CXPI_DONE);
@@ -175,6 +175,18 @@ static bool is_refused(size_t at, uint8_t byte, uint32_t number) {
         }
     }
     return true;
+}
+
+/* The last byte of a row. */
+static void probe_kinds_of_rows(void) {
+    static const uint8_t kinds[4] = {CXPI_FIXED, CXPI_FIXED_COUNTED, CXPI_VARIABLE, CXPI_VARIABLE_COUNTED};
+    for (uint8_t kind = 0; kind < 4; kind++) {
+        make_set();
+        set[523] = kind;
+        mend_checks(1024);
+        IS(read_set(1024) == CXPI_DONE && plan[CXPI_PLAN_ROWS_AT + CXPI_ROW_KIND_AT] == kinds[kind]);
+    }
+    IS(is_refused(523, CXPI_VARIABLE_COUNTED + 1, CXPI_WRONG_ROW));
 }
 
 static void probe_refusals_of_sets(void) {
@@ -284,6 +296,17 @@ static void probe_master_answers(void) {
     IS(master_answered(17, 0, 17, 0, 1, 0) == CXPI_DONE && master_answered(16, 0, 2, 3, 1, 1) == CXPI_DONE && holds(1, 0, 0));
 }
 
+/* Goes on from there, with node 1's row as a variable one: 17 bytes at most. */
+static void probe_shorter_answers(void) {
+    uint8_t *kind = plan + CXPI_PLAN_ROWS_AT + CXPI_ROW_LENGTH + CXPI_ROW_KIND_AT;
+    *kind = CXPI_VARIABLE;
+    IS(master_answered(17, 0, 16, 2, 1, 0) == CXPI_DONE && holds(1, 1, 0) && state[CXPI_MASTER_COUNTS_AT + 17] == CXPI_NO_COUNT);
+    IS(master_answered(17, 0, 18, 2, 1, 0) == CXPI_WRONG_LENGTH && holds(1, 0, 0) && has_cause(1, CXPI_CAUSE_DAMAGED));
+    *kind = CXPI_VARIABLE_COUNTED;
+    IS(master_answered(17, 0, 0, 2, 1, 0) == CXPI_DONE && holds(1, 1, 0) && state[CXPI_MASTER_COUNTS_AT + 17] == 2);
+    *kind = CXPI_FIXED;
+}
+
 /* Each cause of node 1; a number past the last is no state. */
 static void probe_causes(void) {
     IS(master_answered(17, 0, 17, 0, 0, 0) == CXPI_DONE && has_cause(1, CXPI_CAUSE_REFUSED));
@@ -351,6 +374,7 @@ static void probe_master(void) {
     probe_master_power_on();
     probe_master_wake_up();
     probe_master_answers();
+    probe_shorter_answers();
     probe_causes();
     probe_reasons();
     probe_master_sleep();
@@ -539,6 +563,7 @@ int main(void) {
     probe_plan();
     probe_lengths_of_sets();
     probe_refusals_of_sets();
+    probe_kinds_of_rows();
     probe_master();
     probe_node();
     probe_never_sleeps();
