@@ -1,4 +1,4 @@
-"""A release set's bytes, from document 01, and byte 5 of the plan block from document 02, W-206."""
+"""A release set's bytes, from document 01; byte 5 of the plan block and the last byte of a row from document 02, W-206 and W-207."""
 
 
 def check(block):
@@ -14,7 +14,8 @@ def mended(data):
 
 
 def plan_set(revision, times, nodes, rows, profile=0):
-    """A set's bytes. Nodes are (address, class, method); rows are (ReqId, publisher, length, sequence count or not)."""
+    """A set's bytes. Nodes are (address, class, method); rows are (ReqId, publisher, length, kind): kind 0 fixed, 1 fixed with a
+    sequence count, 2 variable, 3 variable with one."""
     plan = bytearray(512)
     plan[0:2] = b"\x50\x01"
     plan[2:4] = revision.to_bytes(2, "big")

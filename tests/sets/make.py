@@ -11,6 +11,7 @@ sys.dont_write_bytecode = True
 from layout import check, mended, plan_set
 
 TIMES = ["W window", "D clock stop", "S node sleep", "E quiet limit", "R wake-up recovery", "P wake-up space", "C clock start"]
+KINDS = ["%d, without sequence count", "%d, with sequence count", "up to %d, without sequence count", "up to %d, with sequence count"]
 RULES = {
     1: "the length is not 1,024 or 1,536 bytes",
     2: "a block's check differs",
@@ -30,9 +31,9 @@ def words(revision, times, nodes, rows, profile=0):
     lines += ["%s, ticks: %d" % pair for pair in zip(TIMES, times)]
     for i, (address, diagnostic, method) in enumerate(nodes):
         lines.append("node %d: address %02X hex, diagnostic class %d, %s" % (i, address, diagnostic, ["event-triggered", "polled"][method]))
-    for reqid, publisher, length, counted in rows:
+    for reqid, publisher, length, kind in rows:
         who = "master" if publisher == 255 else "node %d" % publisher
-        lines.append("ReqId %d: publisher %s, length %d, %s sequence count" % (reqid, who, length, ["without", "with"][counted]))
+        lines.append("ReqId %d: publisher %s, length " % (reqid, who) + KINDS[kind] % length)
     return "".join(line + "\n" for line in lines)
 
 
@@ -54,11 +55,13 @@ FULL = dict(
     revision=65535,
     times=[30000, 1, 1, 30000, 1, 30000, 30000],
     nodes=[(125 - i, 1 + i % 3, i % 2) for i in range(16)],
-    rows=[(i + 1, 255 if i % 17 == 16 else i % 17, 255 - i, i % 2) for i in range(127)],
+    rows=[(i + 1, 255 if i % 17 == 16 else i % 17, 255 - i, i % 4) for i in range(127)],
 )
 HUNDRED = dict(T, rows=[(i + 1, 255 if i else 0, i, i % 2) for i in range(100)])
 ONE_MORE = dict(T, rows=[(i + 1, 255 if i else 0, i, i % 2) for i in range(101)])
 TWO = dict(T, nodes=[(0x41, 1, 1), (0x42, 3, 0)], rows=[(16, 0, 2, 1), (127, 1, 0, 0)])
+# Rows of all four kinds, each of the lengths 0, 1 and 255.
+KINDS_AND_LENGTHS = dict(T, rows=[(1 + i, 0 if i % 3 else 255, [0, 1, 255][i // 4], i % 4) for i in range(12)])
 
 set_t, full, two = plan_set(**T), plan_set(**FULL), plan_set(**TWO)
 one_more = plan_set(**ONE_MORE)
@@ -71,6 +74,11 @@ cases = [
     ("hundred_rows", plan_set(**HUNDRED), words(**HUNDRED)),
     ("one_row_more", one_more, words(**ONE_MORE)),
     ("sleep_equals_stop", mended(put(set_t, (11, 2))), words(**dict(T, times=[10, 2, 2, 4, 5, 6, 1]))),
+    ("kind_0", mended(put(set_t, (523, 0))), words(**dict(T, rows=[(16, 0, 2, 0)]))),
+    ("kind_2", mended(put(set_t, (523, 2))), words(**dict(T, rows=[(16, 0, 2, 2)]))),
+    ("kind_3", mended(put(set_t, (523, 3))), words(**dict(T, rows=[(16, 0, 2, 3)]))),
+    ("kinds", plan_set(**KINDS_AND_LENGTHS), words(**KINDS_AND_LENGTHS)),
+    ("profile_kinds", plan_set(**KINDS_AND_LENGTHS, profile=1), words(**KINDS_AND_LENGTHS, profile=1)),
     ("profile", plan_set(**T, profile=1), words(**T, profile=1)),
     ("profile_full", plan_set(**FULL, profile=1), words(**FULL, profile=1)),
     # 1
@@ -121,7 +129,12 @@ cases = [
     ("same_reqid", mended(put(two, (524, 16))), refused(7)),
     ("falling_over_blocks", mended(put(one_more, (1032, 100))), refused(7)),
     ("publisher_n", mended(put(set_t, (521, 1))), refused(7)),
-    ("kind_2", mended(put(set_t, (523, 2))), refused(7)),
+    ("kind_4", mended(put(set_t, (523, 4))), refused(7)),
+    ("kind_255", mended(put(set_t, (523, 255))), refused(7)),
+    ("kind_4_of_last_row", mended(put(two, (527, 4))), refused(7)),
+    ("kind_4_of_master", mended(put(two, (516, 3), (524, 126), (526, 0), (528, 127), (529, 255), (531, 4))), refused(7)),
+    ("kind_4_of_second_rows", mended(put(full, (1035, 4))), refused(7)),
+    ("kind_4_and_silent", mended(put(two, (525, 0), (527, 4))), refused(7)),
     # 8, also before 9
     ("node_publishes_nothing", mended(put(two, (525, 0), (20, 1))), refused(8)),
     # 9
