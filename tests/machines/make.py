@@ -7,7 +7,8 @@ here calls the product or works a rule out: what is not named as changed stays a
 Plan 0: two nodes, node 0 polled, node 1 event-triggered; W 10, D 2, S 3, E 4, R 5, P 6, C 2; row 16 of node 0, length 2, with a
 sequence count; row 17 of node 1, length 3, without one; row 18 of the master. Plan 1: the same with all times 1. Plan 2: the same
 with revision 0. Plan 3: node 0 and row 16 alone. Plan 4: sixteen nodes; row 17 and the places of node 1 are node 15's. Plan 5: plan 0
-with profile 1, panels that never sleep. Plan 6: plan 0 with profile 2."""
+with profile 1, panels that never sleep. Plan 6: plan 0 with profile 2. Plan 7: plan 0 with variable rows, 16 of kind 3, with a
+sequence count, and 17 of kind 2, without one. Plan 8: plan 0 with row 17 of kind 4."""
 
 STATES = ["Normal", "Standby", "Sleep"]
 PHASES = ["Open", "Sending", "Withdrawn", "Closing"]
@@ -208,6 +209,56 @@ master(dict(OPEN, cause1=AGED), answer(17, 3, 0, 0), LAST_NODE + "refused", plan
 master(dict(OPEN, hold0=2), answer(17, 9, 0, 1), LAST_NODE + "a wrong length", refusal=14, plan=4, cause1=DAMAGED)
 master(dict(OPEN, hold0=2), answer(17, 3, 0, 1, 1), LAST_NODE + "its own wake bit", plan=4, hold0=None, cause0=WAKE, cause1=WAKE)
 master(dict(OPEN, cause1=WAKE), answer(17, 3, 0, 1), LAST_NODE + "held", plan=4, hold1=0, cause1=NEW)
+
+# Lengths: a fixed row accepts its own alone
+FIXED = "fixed: "
+for length in [0, 1, 3, 255, 258]:
+    master(dict(OPEN, last16=1, **BOTH), answer(16, length, 3, 1), FIXED + "row 16 in length %d of 2" % length, refusal=14, hold0=None,
+           cause0=DAMAGED)
+for length in [0, 2, 4, 255, 259]:
+    master(dict(OPEN, last17=1, **BOTH), answer(17, length, 3, 1), FIXED + "row 17 in length %d of 3" % length, refusal=14, hold1=None,
+           cause1=DAMAGED)
+master(dict(OPEN, last16=1, **BOTH), answer(16, 2, 3, 1), FIXED + "row 16 in length 2 of 2", lost=1, last16=3, hold0=0)
+master(dict(OPEN, last17=1, **BOTH), answer(17, 3, 3, 1), FIXED + "row 17 in length 3 of 3", hold1=0)
+
+# A variable row (document 02, W-207) accepts any length up to its own, and none above
+VARIABLE = "variable: "
+for length in [0, 1, 2]:
+    master(dict(OPEN, last16=1, **BOTH), answer(16, length, 3, 1), VARIABLE + "row 16 in length %d of 2" % length, plan=7, lost=1, last16=3,
+           hold0=0)
+    master(OPEN, answer(16, length, 2, 1), VARIABLE + "length %d, none before: lost 0" % length, plan=7, last16=2, hold0=0)
+    master(dict(OPEN, cause0=DAMAGED), answer(16, length, 0, 1), VARIABLE + "length %d, held after damage" % length, plan=7, last16=0, hold0=0,
+           cause0=NEW)
+    master(dict(OPEN, **BOTH), answer(16, length, 0), VARIABLE + "length %d, refusing" % length, plan=7, last16=0, hold0=None, cause0=REFUSED)
+    master(dict(OPEN, **BOTH), answer(16, length, 0, 1, 1), VARIABLE + "length %d, wake bit" % length, plan=7, last16=0, **WOKEN)
+    master(dict(SENDING, **BOTH), answer(16, length, 0, 1), VARIABLE + "length %d, held in Sending" % length, plan=7, last16=0, hold0=0)
+    master(dict(OPEN, **BOTH), answer(16, length, 0, 1, result=1), VARIABLE + "length %d, damaged" % length, refusal=13, plan=7, hold0=None,
+           cause0=DAMAGED)
+for length in [3, 255, 258]:
+    master(dict(OPEN, last16=1, **BOTH), answer(16, length, 3, 1), VARIABLE + "row 16 in length %d of 2" % length, refusal=14, plan=7,
+           hold0=None, cause0=DAMAGED)
+    master(dict(OPEN, **BOTH), answer(16, length, 0, 1, 1), VARIABLE + "length %d with the wake bit: the others stay held" % length,
+           refusal=14, plan=7, hold0=None, cause0=DAMAGED)
+    master(dict(SENDING, **BOTH), answer(16, length, 0, 1), VARIABLE + "length %d in Sending: Withdrawn" % length, refusal=14, plan=7,
+           hold0=None, cause0=DAMAGED, phase="Withdrawn")
+    master(dict(CLOSING, delay=1, **BOTH), answer(16, length, 0, 1), VARIABLE + "length %d in Closing: Open" % length, refusal=14, plan=7,
+           hold0=None, cause0=DAMAGED, phase="Open", delay=0)
+    master(dict(OPEN, **BOTH), answer(16, length, 0, 1, result=1), VARIABLE + "length %d, 13 before 14" % length, refusal=13, plan=7,
+           hold0=None, cause0=DAMAGED)
+for length in [0, 2, 3]:
+    master(dict(OPEN, last17=1, **BOTH), answer(17, length, 3, 1), VARIABLE + "row 17 in length %d of 3: no count stored" % length, plan=7,
+           hold1=0)
+for length in [4, 255, 259, 65535]:
+    master(dict(OPEN, last17=1, **BOTH), answer(17, length, 3, 1), VARIABLE + "row 17 in length %d of 3" % length, refusal=14, plan=7,
+           hold1=None, cause1=DAMAGED)
+master(STANDBY, answer(16, 1, 0, 1), VARIABLE + "shorter in Standby", refusal=16, plan=7)
+master(OPEN, answer(16, 1, 4, 1), VARIABLE + "shorter with count 4", refusal=15, plan=7)
+master(OPEN, answer(17, 1, 4, 1), VARIABLE + "shorter with count 4, of a row without one", refusal=15, plan=7)
+master(OPEN, answer(18, 0), VARIABLE + "a master's row", refusal=12, plan=7)
+# 7: a last byte above 3
+master(OPEN, TICK, "kind 4", refusal=7, plan=8)
+master(OPEN, answer(16, 2, 0, 1), "kind 4 of another row", refusal=7, plan=8)
+master(dict(OPEN, hold0=11), answer(17, 1, 4), "kind 4: 7 before 11 and 15", refusal=7, plan=8)
 
 # Panels that never sleep (document 02, W-206): in Normal and Open all goes on as ever
 NEVER = "never sleeps: "
@@ -416,6 +467,14 @@ node(AWAKE, ask(17), "12 before 21", refusal=12)
 node(AWAKE, ask(16), "polled, not heard", refusal=21)
 node(dict(AWAKE, heard=1, wake=1, count16=1), ask(16), "polled, heard", sent(0, 1, 1), wake=0, count16=2)
 node(dict(AWAKE, permits=1, count17=3), ask(17), "event-triggered, not heard", sent(1, 0, 3), me=1, count17=0)
+
+# Variable rows (document 02, W-207): a node sends as ever, and counts for each
+node(dict(AWAKE, permits=1, wake=1, count16=2), request(16), VARIABLE + "its own row: heard and sent", sent(1, 1, 2), plan=7, heard=1, wake=0,
+     count16=3)
+node(dict(AWAKE, count17=3), ask(17), VARIABLE + "without a count counts too", sent(0, 0, 3), plan=7, me=1, count17=0)
+node(AWAKE, ask(16), VARIABLE + "another's row", refusal=12, plan=7, me=1)
+node(AWAKE, DARK, "kind 4", refusal=7, plan=8)
+node(AWAKE, DARK, "kind 4: 7 before 11", refusal=7, plan=8, me=2)
 
 # Panels that never sleep (document 02, W-206): the error at E without sleeping, a wake bit and a permission that are only set
 SHOWS = dict(AWAKE, error=1, quiet=4)
