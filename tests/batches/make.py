@@ -1,15 +1,16 @@
 #!/usr/bin/env python3
 """Writes the lists of crates/batch_cases and what must be printed of each: stdin and stdout.
 
-Run at the repository's root. A list is a byte for the plan (0 right, 1 with revision 0, 2 of panels that never sleep), a byte for the start
-(0 the plan's power-on, 1 what the list before it left, 2 a state out of range) and six event records of 10 bytes. What is printed is worked
-out by hand from documents 01 and 02; nothing here calls the product or works a rule out.
+Run at the repository's root. A list is a byte for the plan (0 right, 1 with revision 0, 2 of panels that never sleep, 3 with variable rows: 16
+of kind 3, with a sequence count, and 17 of kind 2, without one), a byte for the start (0 the plan's power-on, 1 what the list before it left, 2 a
+state out of range) and six event records of 10 bytes. What is printed is worked out by hand from documents 01 and 02; nothing here calls the
+product or works a rule out.
 
 The plan: two nodes; row 16 of node 0, length 2, with a sequence count; row 17 of node 1, length 3, without one; row 18 of the master; W 3, D 2,
 C 2. A line has what the call answers; the master's state, phase, `permits`, both nodes' permissions with age, the last count of row 16, the delay
 and the tick number; then the replies: refusal, node, command, lost. There are seven places, 9 in each field before the call."""
 
-RIGHT, REFUSED, NEVER_SLEEPS = 0, 1, 2
+RIGHT, REFUSED, NEVER_SLEEPS, VARIABLE = 0, 1, 2, 3
 POWER_ON, GO_ON, OUT_OF_RANGE = 0, 1, 2
 stdin, stdout = [], []
 
@@ -81,6 +82,27 @@ case(GO_ON, [answer(16, 2, count=1), answer(17, 3), SLEEP, TICK, TICK, TICK],
      "Normal Sending permits held 3 held 3 1 0 6", [DONE, DONE, MESSAGE, DONE, DONE, DONE])
 case(GO_ON, [TICK, answer(16, 2), event(7), SLEEP, PULSE, SENT],
      "Normal Sending permits held 3 held 3 1 0 6", ["11 0 0 0"] * 6, plan=NEVER_SLEEPS)
+
+# A fixed row accepts its own length alone.
+case(POWER_ON, [WAKE, TICK, TICK, answer(16, 0, count=1), answer(16, 1, count=1), answer(16, 258, count=1)],
+     "Normal Open - 0 - 0 4 0 2", [DONE, DONE, ON, "14 0 0 0", "14 0 0 0", "14 0 0 0"])
+case(GO_ON, [answer(17, 0), answer(17, 2), answer(17, 4), answer(17, 255), answer(17, 259), answer(17, 3)],
+     "Normal Open - 0 held 0 4 0 2", ["14 0 0 0"] * 5 + [DONE])
+# A variable row accepts any length up to its own, with its count where it has one ..
+case(POWER_ON, [WAKE, TICK, TICK, YES, answer(16, 0, count=1), answer(17, 0, count=1)],
+     "Normal Open permits held 0 held 0 1 0 2", [DONE, DONE, ON, DONE, DONE, DONE], plan=VARIABLE)
+case(GO_ON, [answer(16, 1, count=3), answer(16, 2, count=0), TICK, answer(17, 2), answer(17, 3), answer(16, 1, permission=0)],
+     "Normal Open permits - 0 held 0 0 0 3", ["0 0 0 1", DONE, DONE, DONE, DONE, "0 0 0 3"], plan=VARIABLE)
+# .. and none above.
+case(GO_ON, [answer(16, 3, count=1), answer(16, 255, count=1), answer(16, 258, count=1), answer(17, 4), answer(17, 259), answer(17, 1)],
+     "Normal Open permits - 0 held 0 0 0 3", ["14 0 0 0"] * 5 + [DONE], plan=VARIABLE)
+# Shorter answers do not call a sleep message back, a longer one does.
+case(GO_ON, [answer(16, 1, count=1), SLEEP, answer(16, 0, count=2), answer(17, 4), SENT, SLEEP],
+     "Normal Open permits held 0 - 0 2 0 3", [DONE, MESSAGE, DONE, "14 0 0 0", DONE, "20 1 0 0"], plan=VARIABLE)
+case(GO_ON, [answer(17, 2), SLEEP, answer(16, 1, count=3), SENT, answer(17, 0), TICK],
+     "Normal Closing permits held 1 held 1 3 1 4", [DONE, MESSAGE, DONE, DONE, DONE, DONE], plan=VARIABLE)
+case(GO_ON, [answer(16, 0, count=0, result=1), TICK, answer(16, 0, count=0, wake=1), answer(16, 1, count=4), answer(18, 0), answer(17, 1, count=3)],
+     "Normal Open permits - 0 held 0 0 0 5", ["13 0 0 0", DONE, DONE, "15 0 0 0", "12 0 0 0", DONE], plan=VARIABLE)
 
 with open("crates/batch_cases/stdin", "wb") as file:
     file.write(b"".join(stdin))
