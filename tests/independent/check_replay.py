@@ -28,10 +28,11 @@ def block(values):
 
 
 def plan_set(times, methods, rows, profile=0):
-    """A set of revision 7: the times W, D, S, E, R, P, C, each node's method, each row's ReqId and publisher; profile 1 never sleeps."""
+    """A set of revision 7: the times W, D, S, E, R, P, C, each node's method, each row's ReqId and publisher, and where it is not of two
+    bytes with a sequence count its length and kind; profile 1 never sleeps."""
     head = b"".join(time.to_bytes(2, "big") for time in times)
     entries = b"".join(bytes([0x41 + node, 1, method, 0]) for node, method in enumerate(methods))
-    listed = b"".join(bytes([reqid, publisher, 2, 1]) for reqid, publisher in rows)
+    listed = b"".join(bytes(row if len(row) == 4 else [*row, 2, 1]) for row in rows)
     first = block([(0, bytes([0x50, 1, 0, 7, len(methods), profile])), (6, head), (32, entries)])
     return first + block([(0, bytes([0x4D, 1, 0, 7, len(rows)])), (8, listed)])
 
@@ -41,6 +42,8 @@ SET_T = plan_set([10, 2, 3, 4, 5, 6, 1], [1], [(16, 0)])
 THREE = plan_set([3, 2, 2, 1, 2, 3, 1], [1, 1, 1], [(1, 0), (2, 1), (3, 2), (4, MASTER)])
 # Two nodes and R 1: a caller's second pulse comes with its first tick.
 QUICK = plan_set([3, 2, 2, 1, 1, 3, 1], [0, 0], [(1, 0), (2, 1)])
+# Two nodes with a variable row each, with a sequence count and without one, and a fixed one.
+DIAL = plan_set([3, 2, 2, 1, 1, 3, 1], [0, 0], [(1, 0, 2, 3), (2, 1, 3, 2), (3, 0, 2, 0), (4, 1, 2, 1)])
 # The three nodes of panels that never sleep.
 TRUCK = plan_set([3, 2, 2, 1, 2, 3, 1], [1, 1, 1], [(1, 0), (2, 1), (3, 2), (4, MASTER)], profile=1)
 
@@ -132,6 +135,11 @@ CASES = [
                   move(1, hearing=NONE, master=0), TICK],
      ASKED_TWO_LINES + ["N1 1 NN 0", "N3 1 NN 0", "N0 1 NN 0", "N0 1 NN 0", "N0 1 NN 0", "N1 1 NN 0", "N3 1 NN 0", "N3 1 ZZ 0", "N3 1 SZ 0",
                         "S0 0 SS 0"]),
+    ("whole answers in any length", DIAL,
+     ASKED_TWO + [SLEEP_ASK] + [move(5, value=reqid, length=length) for reqid in (1, 2, 3, 4) for length in (0, 1, 2, 3, 4, 255, 258, 65535)] +
+     [move(6, node=1, value=2, length=0), move(5, value=2, fate=2, length=1), move(5, value=2, fate=1, result=1, length=1, permission=1), SENT,
+      SLEEP_ASK, move(6, node=1, value=2, length=1), SLEEP_ASK],
+     ASKED_TWO_LINES + ["N1 1 NN 0"] * 35 + ["N2 1 NN 13", "N0 1 NN 0", "N0 1 NN 20", "N0 1 NN 0", "N1 1 NN 0"]),
     ("panels that never sleep", TRUCK,
      [SLEEP_ASK, SENT, move(8, value=0), move(6, node=0, value=1), move(6, node=1, value=1), move(5, value=4)] + 12 * [TICK] +
      [move(3, node=node, value=1) for node in range(3)] + [PERMIT_MASTER] + [move(5, value=reqid) for reqid in (1, 2, 3)] +
@@ -144,7 +152,8 @@ CASES = [
 FOLDER = object()  # in the place of a set's bytes: plan.set can't be read
 REFUSED_SETS = [("missing set", None, "set 1"), ("set that can't be read", FOLDER, "set 1"), ("short set", SET_T[:512], "set 1"),
                 ("long set", SET_T + bytes(1024), "set 1"), ("set with a byte too many", SET_T + b"\0", "set 1"),
-                ("third block of zeros", SET_T + bytes(512), "set 3"), ("wrong check", SET_T[:1023] + b"\0", "set 2")]
+                ("third block of zeros", SET_T + bytes(512), "set 3"), ("wrong check", SET_T[:1023] + b"\0", "set 2"),
+                ("row of kind 4", plan_set([3, 2, 2, 1, 1, 3, 1], [0], [(1, 0, 2, 4)]), "set 7")]
 
 
 def run(program, data, moves):

@@ -1,4 +1,5 @@
-"""A move's record of 16 bytes, by the table in crates/runs/src/lib.rt."""
+"""A move's record of 16 bytes, by the table in crates/runs/src/lib.rt. Its length is a damaged answer's, and a whole answer's of a variable
+row, where one above the row's is the row's."""
 
 ALL, NONE = 0xFFFF, 0
 WHOLE, DAMAGED, LOST = 0, 1, 2
