@@ -22,6 +22,9 @@ release_set("f", [10, 2, 3, 12, 5, 4, 2], [POLLED, EVENT], [(16, 0, 2, 1), (17, 
 # a clock stop at which a node can wake in Closing
 release_set("l", [10, 3, 3, 4, 5, 6, 1], [POLLED], [(16, 0, 2, 1)])
 release_set("sixteen", [10, 2, 3, 12, 5, 4, 2], [POLLED, EVENT] * 8, [(16 + i, i, 2, 1) for i in range(16)] + [(127, MASTER, 0, 0)])
+# variable rows (W-207), one of them of the longest
+release_set("dial", [10, 2, 3, 12, 5, 4, 2], [POLLED, EVENT], [(16, 0, 2, 3), (17, 1, 255, 2), (18, MASTER, 2, 2), (19, 1, 0, 2), (20, 0, 0, 3)])
+sets["dial-refused"] = mended(sets["dial"][:531] + b"\4" + sets["dial"][532:])
 # panels that never sleep (W-206)
 release_set("truck", [10, 2, 3, 4, 5, 6, 1], [POLLED], [(16, 0, 2, 1)], profile=1)
 release_set("truck-two", [10, 2, 3, 12, 5, 4, 2], [POLLED, EVENT], [(16, 0, 2, 1), (17, 1, 2, 1), (18, MASTER, 2, 0)], profile=1)
@@ -637,6 +640,57 @@ tick          | N0 1 {N} 0
 tick          | N0 1 {N} 0
 """.lstrip().format(**all_in))
 
+# W-207, variable rows: an answer has its row's own length, which the row accepts
+script("dial", "dial", """
+wake m         | S0 0 ZZ 0
+tick           | S0 0 ZZ 0
+tick           | N0 1 SS 0
+tick           | N0 1 NN 0
+permit 0 1     | N0 1 NN 0
+permit 1 1     | N0 1 NN 0
+permit m 1     | N0 1 NN 0
+req 18 ok      | N0 1 NN 0
+req 16 ok      | N0 1 NN 0
+sleep          | N0 1 NN 20
+send 1 17 ok   | N0 1 NN 0
+sleep          | N1 1 NN 0
+send 0 16 ok   | N1 1 NN 0
+req 17 ok      | N1 1 NN 0
+send 1 19 ok   | N1 1 NN 0
+req 20 ok      | N1 1 NN 0
+req 17 lost    | N1 1 NN 0
+req 17 bad     | N2 1 NN 13
+sent ok        | N0 1 NN 0
+sleep          | N0 1 NN 20
+req 19 ok      | N0 1 NN 0
+sleep          | N1 1 NN 0
+sent ok        | N3 1 NN 0
+send 1 17 ok   | N3 1 NN 0
+tick           | N3 1 NN 0
+req 16 ok      | N3 1 NN 0
+tick           | Z0 0 NN 0
+tick           | Z0 0 ZZ 0
+""")
+script("dial", "dial-called-back", """
+wake 1         | S0 0 SS 0
+tick           | S0 0 SS 0
+tick           | N0 1 NN 0
+permit 0 1     | N0 1 NN 0
+permit 1 1     | N0 1 NN 0
+permit m 1     | N0 1 NN 0
+req 20 ok      | N0 1 NN 0
+req 17 ok      | N0 1 NN 0
+sleep          | N0 1 NN 20
+req 16 ok      | N0 1 NN 0
+req 17 ok      | N0 1 NN 0
+sleep          | N1 1 NN 0
+permit 1 0     | N1 1 NN 0
+send 1 19 ok   | N2 1 NN 0
+sent fail      | N0 1 NN 0
+send 0 17 ok   | N0 1 NN 12
+send 1 18 ok   | N0 1 NN 12
+""")
+
 # Lines that are no moves, and the last without its LF
 STILL, BAD = "Z0 0 Z 0", "?"
 odd = [b"", b" ", b"tick ", b" tick", b"tick\r", b"\rtick", b"Tick", b"tick\t", b"tick tick", b"ticks", b"wake", b"wake ", b"wake 1", b"wake 00", b"wake 01"]
@@ -650,7 +704,7 @@ raw("t", "one-empty-line", [(b"", BAD)])
 raw("t", "carriage-returns", [(b"tick\r", BAD)] * 3)
 
 # A refused set, and one that is missing: nothing but its number
-for name, refusal in [("short", 1), ("check", 2), ("truck-refused", 3), ("missing", 1)]:
+for name, refusal in [("short", 1), ("check", 2), ("truck-refused", 3), ("dial-refused", 7), ("missing", 1)]:
     drills.refused(name, "document-01", refusal)
 
 drills.store()

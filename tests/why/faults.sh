@@ -66,6 +66,8 @@ answer='/^static uint32_t master_answer/,/^}/'
 fault "$answer s/REFERENCE_CAUSE_DAMAGED/REFERENCE_CAUSE_REFUSED/"
 fault "$answer s/REFERENCE_CAUSE_REFUSED/master->causes[row->publisher]/" # a refusal keeps the cause of before
 fault '/^static uint32_t master_tick/,/^}/ s/forget_causes(master);//'
+fault '/^static bool row_accepts/,/^}/ s/length <= row->length/length < row->length/'
+fault 's/row->kind > REFERENCE_VARIABLE_COUNTED/row->kind > REFERENCE_VARIABLE/'
 echo "$found faults, each found by the cases and by the comparison"
 
 # A drill sends every answer in its row's length.
@@ -74,3 +76,10 @@ spoil 's/REFERENCE_CAUSE_DAMAGED);/event->result == 0 ? REFERENCE_CAUSE_REFUSED 
     $independent/configuration.c -o "$work/exports"
 must_find 'a wrong length taken for refused' '^  wrong: wrong length$' "$work/exports"
 echo 'a wrong length taken for refused: found by the tests of the C calls'
+for length in 'length == row->length' 'length < row->length || length == 255'; do
+    spoil "/^static bool row_accepts/,/^}/ s/? length <= row->length/? ($length)/" # a shorter one taken for damage, a longer one for whole
+    "${CC:-gcc}" -std=c11 -O1 -DCXPI_REFERENCE -Iinclude -I$independent tests/c/exports.c "$work/reference.c" $independent/reference_packed.c \
+        $independent/configuration.c -o "$work/exports"
+    must_find "variable: $length" '^  wrong: \(shorter\|longer\), with count$' "$work/exports"
+done
+echo 'a shorter answer taken for damage, a longer one for whole: found by the tests of the C calls'

@@ -1,5 +1,5 @@
 #!/usr/bin/env python3
-"""Writes the cases of the program why (W-205, W-206): sets and scripts in tests/why/data, tests/why/args and tests/why/stdout.
+"""Writes the cases of the program why (W-205 to W-207): sets and scripts in tests/why/data, tests/why/args and tests/why/stdout.
 
 Run at the repository's root. Beside each move stands what it prints by document 01; the words after it in a case are those of the line
 why by document 02. Nothing here calls the product."""
@@ -32,6 +32,10 @@ cases.release_set("three-ticks", [3, 2, 3, 12, 5, 4, 1], [POLLED, EVENT], TWO)
 cases.release_set("late-clock", [10, 2, 3, 12, 2, 4, 4], [POLLED, EVENT], TWO)
 SIXTEEN = [(16 + i, i, 2, 1) for i in range(16)] + [(127, MASTER, 0, 0)]
 cases.release_set("sixteen", [10, 2, 3, 12, 5, 4, 1], [POLLED, EVENT] * 8, SIXTEEN)
+# variable rows, with a sequence count and without one, the longest and one of no bytes
+DIAL = [(16, 0, 2, 3), (17, 1, 255, 2), (18, 0, 0, 2)]
+cases.release_set("dial", [2, 2, 3, 12, 5, 6, 1], [POLLED, EVENT], DIAL)
+cases.release_set("truck-dial", [2, 2, 3, 12, 5, 6, 1], [POLLED, EVENT], DIAL, profile=1)
 # panels that never sleep
 cases.release_set("truck", [2, 2, 3, 4, 5, 6, 1], [POLLED], ONE, profile=1)
 cases.release_set("truck-two", [10, 2, 3, 12, 5, 4, 1], [POLLED, EVENT], TWO, profile=1)
@@ -284,6 +288,22 @@ why("truck-two", "truck-two-damaged", "req 17 bad | N0 1 NN 13", "profile")
 why("truck-sixteen", "truck-all-new", PERMITTED, "profile")
 why("truck-sixteen", "truck-all-ready", PERMITTED + held(range(16)), "profile")
 
+# W-207: an answer of a variable row is whole in its row's own length
+READY_DIAL = UP_TWO + HELD_0 + HELD_1
+why("dial", "dial-new", UP_TWO, "0 new")
+why("dial", "dial-first-held", UP_TWO + HELD_0, "1 new")
+why("dial", "dial-ready", READY_DIAL, "none")
+why("dial", "dial-no-bytes", UP_TWO + "req 18 ok | N0 1 NN 0\n" + HELD_1, "none")
+why("dial", "dial-damaged", READY_DIAL + "req 17 bad | N0 1 NN 13", "1 damaged")
+why("dial", "dial-damaged-held", READY_DIAL + "req 17 bad | N0 1 NN 13\n" + HELD_1, "none")
+why("dial", "dial-lost", READY_DIAL + "req 17 lost | N0 1 NN 0", "none")
+why("dial", "dial-refused", READY_DIAL + "permit 0 0 | N0 1 NN 0\nreq 18 ok | N0 1 NN 0", "0 refused")
+why("dial", "dial-aged", READY_DIAL + "tick | N0 1 NN 0\n" * 3 + HELD_0, "1 aged")
+why("dial", "dial-carried", READY_DIAL + "wake 1 | N0 1 NN 0\nreq 17 ok | N0 1 NN 0\n" + HELD_0, "1 wake")
+why("dial", "dial-sending", READY_DIAL + "sleep | N1 1 NN 0\nreq 17 ok | N1 1 NN 0\nreq 18 ok | N1 1 NN 0", "sleep")
+why("dial", "dial-owed", READY_DIAL + "sleep | N1 1 NN 0\nreq 18 bad | N2 1 NN 13", "owed")
+why("truck-dial", "truck-dial", "req 17 ok | N0 1 NN 0\nreq 18 bad | N0 1 NN 13", "profile")
+
 # A refused set, and one that is missing: nothing but its number, no line why
 TIMES, NODES = [10, 2, 3, 4, 5, 6, 1], [(0x41, 1, 1)]
 sets["size"] = sets["t"][:1023]
@@ -292,7 +312,7 @@ sets["block"] = mended(b"\x51" + sets["t"][1:])
 sets["revision"] = plan_set(0, TIMES, NODES, ONE)
 sets["time"] = plan_set(7, [0] + TIMES[1:], NODES, ONE)
 sets["node"] = plan_set(7, TIMES, [(0x41, 4, 1)], ONE)
-sets["row"] = plan_set(7, TIMES, NODES, [(16, 0, 2, 2)])
+sets["row"] = plan_set(7, TIMES, NODES, [(16, 0, 2, 4)])
 sets["silent"] = plan_set(7, TIMES, NODES + [(0x42, 1, 1)], ONE)
 sets["filler"] = mended(sets["t"][:20] + b"\1" + sets["t"][21:])
 sets["profile"] = mended(sets["t"][:5] + b"\2" + sets["t"][6:])
