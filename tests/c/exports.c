@@ -793,6 +793,24 @@ static void test_variable_rows(void) {
     end_group("master: variable rows");
 }
 
+/* The explanation follows: of node 0's answer, the other node held and the master permitting, a longer one alone is damage. */
+static void test_explained_lengths(void) {
+    uint8_t state[CXPI_MASTER_LENGTH];
+    for (unsigned length = 0; length <= 300; length++) {
+        for (int variable = 0; variable < 2; variable++) {
+            stepped_plan = variable ? plan_v : plan_u;
+            bool whole = variable ? length <= 2 : length == 2;
+            call made = master_call(EDITS({M_OWN, 1}, {M_HELD_0, 1}, {M_HELD_1, 1}), ANSWER_OF(16, length, 0, 1, 0));
+            check(make_call(&made) == (whole ? 0 : 14), "answer to be explained");
+            memcpy(state, lent_bytes(&lent_state), sizeof state);
+            made.state = state;
+            expect_why("answer explained", &made, 0, whole ? 0 : 4, 0, whole ? 0 : 3);
+        }
+    }
+    stepped_plan = plan_u;
+    end_group("why: lengths");
+}
+
 /* Edge 7: a tick on the state of edge 6, then the sleep ask. */
 static void test_late_sleep_ask(void) {
     uint8_t state[CXPI_MASTER_LENGTH];
@@ -1541,6 +1559,7 @@ int main(int count, char **arguments) {
     test_master_answer();
     test_fixed_rows();
     test_variable_rows();
+    test_explained_lengths();
     test_named_nodes();
     test_master_others();
     test_master_range();

@@ -511,6 +511,18 @@ static void probe_batch(void) {
     IS(replies[1].refusal == CXPI_NEEDS_NORMAL && replies[1].command == CXPI_MASTER_NOTHING);
 }
 
+/* A list with a shorter and a longer answer of node 1's row as a variable one. */
+static void probe_batch_of_lengths(void) {
+    struct cxpi_master_event events[2] = {{.kind = CXPI_MASTER_ANSWER, .reqid = 17, .length = 16, .permission = 1},
+                                          {.kind = CXPI_MASTER_ANSWER, .reqid = 17, .length = 18, .permission = 1}};
+    struct cxpi_master_reply replies[2];
+    plan[CXPI_PLAN_ROWS_AT + CXPI_ROW_LENGTH + CXPI_ROW_KIND_AT] = CXPI_VARIABLE;
+    state[CXPI_MASTER_STATE_AT] = CXPI_NORMAL;
+    IS(cxpi_master_batch(plan, CXPI_PLAN_LENGTH, state, CXPI_MASTER_LENGTH, events, 1, replies, 1) == CXPI_DONE && holds(1, 1, 0));
+    IS(cxpi_master_batch(plan, CXPI_PLAN_LENGTH, state, CXPI_MASTER_LENGTH, events, 2, replies, 2) == CXPI_DONE && holds(1, 0, 0));
+    IS(replies[0].refusal == CXPI_DONE && replies[1].refusal == CXPI_WRONG_LENGTH && has_cause(1, CXPI_CAUSE_DAMAGED));
+}
+
 /* The node configuration */
 
 static uint8_t identity[ROOM], answer[ROOM], address, answer_length;
@@ -568,6 +580,7 @@ int main(void) {
     probe_node();
     probe_never_sleeps();
     probe_batch();
+    probe_batch_of_lengths();
     probe_configuration();
     printf("%u probes by the header's constants, %u wrong\n", probes, wrong);
     return wrong == 0 ? EXIT_SUCCESS : EXIT_FAILURE;
