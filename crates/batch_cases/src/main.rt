@@ -115,7 +115,7 @@ fn print_ran(ran: Ran) {
 }
 
 // Two nodes; a row of each, the first with a sequence count, and one of the master.
-fn plan_of(revision: u16, profile: u8) -> Plan {
+fn plan_of(revision: u16, profile: u8, variable: bool) -> Plan {
     let mut plan = Plan::zero();
     let mut nodes = plan.nodes;
     nodes[0] = NodeEntry {
@@ -135,13 +135,13 @@ fn plan_of(revision: u16, profile: u8) -> Plan {
         reqid: 16,
         publisher: 0,
         length: 2,
-        kind: 1,
+        kind: if variable { 3 } else { 1 },
     };
     rows[1] = Row {
         reqid: 17,
         publisher: 1,
         length: 3,
-        kind: 0,
+        kind: if variable { 2 } else { 0 },
     };
     rows[2] = Row {
         reqid: 18,
@@ -218,7 +218,7 @@ fn run_list(list: &[u8], left: Master) -> Master {
     };
     let revision = if byte_at(list, 0) == 1 { 0 } else { 7 };
     let profile = if byte_at(list, 0) == 2 { 1 } else { 0 };
-    let plan = plan_of(revision, profile);
+    let plan = plan_of(revision, profile, byte_at(list, 0) == 3);
     let start = start_of(byte_at(list, 1), plan.sleeps(), left);
     let ran = run_six(plan, start, events_of(list), [untouched; 7]);
     print_ran(ran);

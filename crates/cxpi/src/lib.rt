@@ -12,5 +12,5 @@ mod sets;
 pub extern "C" fn cxpi_version() -> u32
     ensures { λ r. ⌜ r ≡ version ⌝ }
 {
-    5
+    6
 }

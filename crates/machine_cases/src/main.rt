@@ -127,8 +127,24 @@ fn profile_of(x: u64) -> u8 {
     }
 }
 
+fn first_kind(x: u64) -> u8 {
+    match x {
+        7 => 3,
+        _ => 1,
+    }
+}
+
+fn second_kind(x: u64) -> u8 {
+    match x {
+        7 => 2,
+        8 => 4,
+        _ => 0,
+    }
+}
+
 // Two nodes, the first polled; a row of each and one of the master. Plan 1 has the shortest times, 2 a wrong revision, 3 one
-// node with its row, 4 sixteen nodes, 5 the profile of panels that never sleep, 6 a wrong profile.
+// node with its row, 4 sixteen nodes, 5 the profile of panels that never sleep, 6 a wrong profile, 7 rows of variable length, 8 a
+// row of a wrong kind.
 fn plan_of(x: u64) -> Plan {
     let mut plan = Plan::zero();
     let mut nodes = plan.nodes;
@@ -149,13 +165,13 @@ fn plan_of(x: u64) -> Plan {
         reqid: 16,
         publisher: 0,
         length: 2,
-        kind: 1,
+        kind: first_kind(x),
     };
     rows[1] = Row {
         reqid: 17,
         publisher: 1,
         length: 3,
-        kind: 0,
+        kind: second_kind(x),
     };
     rows[2] = Row {
         reqid: 18,

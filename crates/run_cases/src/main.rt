@@ -1,6 +1,6 @@
 // A test of the running bus. Of each file of moves that an argument names it prints the name, the refusal, and the states of the
-// master, with its phase, and of both nodes, `!` for an error; then the same under the plan of panels that never sleep, and at the
-// end of the first file under a refused plan.
+// master, with its phase, and of both nodes, `!` for an error; then the same under the plan of panels that never sleep and under one
+// whose rows have variable lengths, and at the end of the first file under a refused plan.
 use libc::STDOUT_FILENO;
 use machine::State;
 use master::Phase;
@@ -56,7 +56,7 @@ fn print_ran(ran: Ran) {
 }
 
 // Two nodes, each with a row; settling time 5, S + 2 = 4.
-fn plan_of(revision: u16, profile: u8) -> Plan {
+fn plan_of(revision: u16, profile: u8, variable: bool) -> Plan {
     let mut plan = Plan::zero();
     let mut nodes = plan.nodes;
     nodes[0] = NodeEntry {
@@ -76,13 +76,13 @@ fn plan_of(revision: u16, profile: u8) -> Plan {
         reqid: 1,
         publisher: 0,
         length: 2,
-        kind: 1,
+        kind: if variable { 3 } else { 1 },
     };
     rows[1] = Row {
         reqid: 2,
         publisher: 1,
         length: 2,
-        kind: 0,
+        kind: if variable { 2 } else { 0 },
     };
     let times = Times {
         window: 3,
@@ -103,22 +103,23 @@ fn plan_of(revision: u16, profile: u8) -> Plan {
     plan
 }
 
-fn run_file(argument: usize, revision: u16, profile: u8) {
+fn run_file(argument: usize, revision: u16, profile: u8, variable: bool) {
     let mut name = io::buffer();
     let name_length = os::arg(argument, &mut name);
     print(&name[..name_length]);
     let mut moves = io::large_buffer();
     let count = set_file::read_set(&name[..name_length], &mut moves);
-    print_ran(runs::run(plan_of(revision, profile), &moves[..count]));
+    print_ran(runs::run(plan_of(revision, profile, variable), &moves[..count]));
 }
 
 fn main() {
     let count = os::arg_count();
     let mut i: usize = 1;
     while i < count {
-        run_file(i, 1, 0);
-        run_file(i, 1, 1);
+        run_file(i, 1, 0, false);
+        run_file(i, 1, 1, false);
+        run_file(i, 1, 0, true);
         i += 1;
     }
-    run_file(1, 0, 0);
+    run_file(1, 0, 0, false);
 }

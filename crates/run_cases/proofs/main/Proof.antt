@@ -22,6 +22,9 @@ run-file-requires c κs = search needs
 run-file-requires-2 : tie.Need-run-file-requires-2 Inv-loop μ-loop
 run-file-requires-2 c κs = search needs
 
+run-file-requires-3 : tie.Need-run-file-requires-3 Inv-loop μ-loop
+run-file-requires-3 c κs = search needs
+
 add-i : tie.Need-add-i Inv-loop μ-loop
 add-i c = search needs
 
@@ -31,8 +34,8 @@ loop-less c = search needs
 loop-again : tie.Need-loop-again Inv-loop μ-loop
 loop-again c = search needs
 
-run-file-requires-3 : tie.Need-run-file-requires-3 Inv-loop μ-loop
-run-file-requires-3 c κs = search needs
+run-file-requires-4 : tie.Need-run-file-requires-4 Inv-loop μ-loop
+run-file-requires-4 c κs = search needs
 
 returns : tie.Need-returns Inv-loop μ-loop
 returns c = search needs
@@ -47,8 +50,9 @@ main-spec =
     loop-holds
     run-file-requires
     run-file-requires-2
+    run-file-requires-3
     add-i
     loop-less
     loop-again
-    run-file-requires-3
+    run-file-requires-4
     returns)

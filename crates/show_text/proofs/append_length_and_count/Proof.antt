@@ -16,6 +16,9 @@ is-variable-requires c κs = search needs
 append-length-requires : tie.Need-append-length-requires
 append-length-requires c κs = search needs
 
+cast-append-decimal : tie.Need-cast-append-decimal
+cast-append-decimal c = search needs
+
 append-decimal-requires : tie.Need-append-decimal-requires
 append-decimal-requires c κs = search needs
 
@@ -59,6 +62,7 @@ append-length-and-count-spec =
     (tie.spec
     is-variable-requires
     append-length-requires
+    cast-append-decimal
     append-decimal-requires
     slice-aggregate-append
     append-requires
