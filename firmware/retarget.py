@@ -7,8 +7,8 @@ MODULE is the module that rattle hands to clang, as text. HEADER declares the ex
 which the two lines `target ..` are taken. OUT is the module retargeted, each function with the attributes given (optsize).
 
 The code stays as it is: usize has 64 bits, and a place has the size and the offsets that it has on x86-64, where a pointer fills
-the first four of its eight bytes. What changes: the target, two attributes that are x86-64's, places of one pointer, which are made eight
-bytes long, and the lengths of the exported functions, which become 32 bits wide (`size_t`) and are extended by zeros on entry.
+the first four of its eight bytes. What changes: the target, two attributes that are x86-64's, names with `::`, which get a dot for it, places
+of one pointer, which are made eight bytes long, and the lengths of the exported functions, which become 32 bits wide (`size_t`) and are extended by zeros on entry.
 
 That is right of a module in which nothing depends on the width of a pointer, and of no other. So every line has one of the few forms
 below or the module is refused: no pointer becomes a number or is compared, steps over memory are in bytes, alignments are written out,
@@ -263,7 +263,9 @@ def retargeted(lines, functions, target_lines, attributes):
                 lines[function.head + 1] += f'\n  {register} = zext i32 {register}.length to i64'
     own = lines.index(OWN_ATTRIBUTES)
     lines[own] = f'attributes #0 = {{ {" ".join([*attributes, "nounwind"])} }}'
-    return '\n'.join(target_lines + [line for line in lines if line not in X86_64]) + '\n'
+    text = '\n'.join(target_lines + [line for line in lines if line not in X86_64]) + '\n'
+    # An assembler for RISC-V calls no name in quotes.
+    return re.sub(r'@"([\w:]+)"', lambda name: '@' + name[1].replace('::', '.'), text)
 
 
 def read_target(text):

@@ -36,9 +36,10 @@ def main():
     print("| ns, best of %d runs | export |" % TURNS + "".join(" C, %s | ratio |" % name for _, name in programs)
           + " stack, bytes |" + "".join(" C's |" for _ in programs))
     print("|---|---|" + "---|---|" * len(programs) + "---|" + "---|" * len(programs))
-    for call, ours in export.items():
-        if not call.startswith(calls):
-            continue
+    chosen = {call: ours for call, ours in export.items() if call.strip("`").startswith(calls)}
+    if not chosen:
+        sys.exit("no call whose name begins with " + calls)
+    for call, ours in chosen.items():
         cells = []
         for place, (_, name) in enumerate(programs):
             theirs = baseline[call, place]

@@ -4,6 +4,7 @@ reason, and that it takes the module of the C calls.
 
 Usage: retarget_test.py MODULE HEADER"""
 import os
+import re
 import sys
 
 sys.path.insert(0, os.path.join(os.path.dirname(__file__), '..', '..', 'firmware'))
@@ -132,17 +133,23 @@ GONE = [
     'target datalayout = "e-m:e-p270:32:32-p271:32:32-p272:64:64-i64:64-i128:128-f80:128-n8:16:32:64-S128"',
     'target triple = "x86_64-unknown-linux-gnu"',
     'define internal noundef zeroext i1 @"total::is_below"(i8 noundef %a0, i8 noundef %a1, i1 noundef zeroext %a2) #0 {',
+    'define internal void @"total::add"(ptr noundef %a0, ptr noundef %a1, i8 noundef %a2) #0 {',
     '  %r1 = alloca ptr, align 8',
+    '  %r10 = call i1 @"total::is_below"(i8 %r9, i8 %a2, i1 true)',
     'define noundef i32 @total_of(ptr noundef %a0, i64 noundef %a1, ptr noundef %a2, i8 noundef %a3) #0 {',
+    '  call void @"total::add"(ptr %r0, ptr %a2, i8 %a3)',
     'attributes #0 = { nounwind "probe-stack"="inline-asm" "target-cpu"="x86-64" }',
 ]
 COME = [
     'target datalayout = "e-m:e-p:32:32-Fi8-i64:64-v128:64:128-a:0:32-n32-S64"',
     'target triple = "thumbv6m-unknown-none-eabi"',
-    'define internal noundef i1 @"total::is_below"(i8 noundef %a0, i8 noundef %a1, i1 noundef %a2) #0 {',
+    'define internal noundef i1 @total.is_below(i8 noundef %a0, i8 noundef %a1, i1 noundef %a2) #0 {',
+    'define internal void @total.add(ptr noundef %a0, ptr noundef %a1, i8 noundef %a2) #0 {',
     '  %r1 = alloca [8 x i8], align 8',
+    '  %r10 = call i1 @total.is_below(i8 %r9, i8 %a2, i1 true)',
     'define noundef i32 @total_of(ptr noundef %a0, i32 noundef %a1.length, ptr noundef %a2, i8 noundef %a3) #0 {',
     '  %a1 = zext i32 %a1.length to i64',
+    '  call void @total.add(ptr %r0, ptr %a2, i8 %a3)',
     'attributes #0 = { optsize nounwind }',
 ]
 
@@ -286,12 +293,12 @@ def test_refusals():
 
 
 def test_calls(module, header):
-    """The module of the C calls is taken, and each line that is not of the new forms is left as it was."""
+    """The module of the C calls is taken, and each line that is not of the new forms is left as it was but for its names."""
     with open(module, encoding='utf-8') as file:
         before = file.read()
     with open(header, encoding='utf-8') as file:
         after = made(before, file.read(), TARGET).splitlines()
-    kept = set(retarget.read_lines(before))
+    kept = {re.sub(r'@"([^"]+)"', lambda name: '@' + name[1].replace('::', '.'), line) for line in retarget.read_lines(before)}
     new = [line for line in after if line not in kept and not line.startswith(('define ', 'target ', 'attributes #0 '))]
     if any('= alloca [8 x i8], align' not in line and '.length to i64' not in line for line in new):
         wrong.append('a line of the C calls is changed that should not be')

@@ -92,20 +92,23 @@ impl World {
         let ticked = tick_nodes(before, sleeps, count, times, clock);
         let nodes = ticked.nodes;
         let callers = ticked.callers;
-        let world = World {
-            master: next,
-            nodes,
-        };
         let called = any_called(callers);
         let passed = Passed::ticked(clock, is_off(command), called & bus.master);
         // most ticks: the world goes on without the copies that a pulse costs
         if !called {
             return Moved {
-                world,
+                world: World {
+                    master: next,
+                    nodes,
+                },
                 refusal: reply.refusal,
                 passed,
             };
         }
+        let world = World {
+            master: next,
+            nodes,
+        };
         Moved {
             world: world.spread(count, callers, bus),
             refusal: reply.refusal,

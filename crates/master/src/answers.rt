@@ -3,6 +3,7 @@ ghost use mathlib.Core.Path.{_≡_};
 ghost use Rattle.master.specs.Answers.{lostAfter, damaged, judged, wholeStep, rowStep, answerStep};
 use crate::Answer;
 use crate::Command;
+use crate::Hold;
 use crate::Master;
 use crate::Reply;
 use crate::refuse;
@@ -30,8 +31,8 @@ impl Master {
     fn damaged(self, publisher: u8, refusal: u8) -> Reply
         ensures { λ r. ⌜ r ≡ damaged publisher refusal self ⌝ }
     {
-        let marked = self.because(Master::DAMAGED, publisher);
-        refuse(marked.let_go(publisher).call_back(), refusal)
+        let marked = self.told(publisher, Master::NO_HOLD, Master::DAMAGED);
+        refuse(marked.call_back(), refusal)
     }
 
     // What the bits of a whole answer do.
@@ -42,10 +43,10 @@ impl Master {
             self.drop_all().because(Master::WAKE, publisher).call_back()
         } else {
             if permission {
-                self.because(Master::NEW, publisher).hold(publisher)
+                let given = Hold { held: true, age: 0 };
+                self.told(publisher, given, Master::NEW)
             } else {
-                self.because(Master::REFUSED, publisher)
-                    .let_go(publisher)
+                self.told(publisher, Master::NO_HOLD, Master::REFUSED)
                     .call_back()
             }
         }

@@ -61,20 +61,20 @@ fn delay_right(times: Times, state: State, phase: Phase, delay: u16) -> bool
     }
 }
 
-fn hold_right(nodecount: u8, window: u16, node: usize, hold: Hold) -> bool
+fn hold_right(nodecount: u8, window: u16, node: u8, hold: Hold) -> bool
     ensures { λ r. ⌜ r ≡ holdRight nodecount window node hold ⌝ }
 {
     if hold.held {
-        (node < (nodecount as usize)) & (hold.age <= window)
+        (node < nodecount) & (hold.age <= window)
     } else {
         hold.age == 0
     }
 }
 
-fn cause_right(normal: bool, nodecount: u8, node: usize, held: bool, cause: u8) -> bool
+fn cause_right(normal: bool, nodecount: u8, node: u8, held: bool, cause: u8) -> bool
     ensures { λ r. ⌜ r ≡ causeRight normal nodecount node held cause ⌝ }
 {
-    if normal & (node < (nodecount as usize)) & !held {
+    if normal & (node < nodecount) & !held {
         cause <= Master::WAKE
     } else {
         cause == Master::NEW
@@ -91,16 +91,16 @@ fn nodes_right(
 ) -> bool
     ensures { λ r. ⌜ r ≡ (holdsRight nodecount window holds && causesRight normal nodecount holds causes) ⌝ }
 {
-    let mut i: usize = 0;
-    while i < Plan::NODES {
-        let hold = holds[i];
-        let right = hold_right(nodecount, window, i, hold);
-        if !(right & cause_right(normal, nodecount, i, hold.held, causes[i])) {
-            return false;
-        }
+    let mut right: bool = true;
+    let mut i: u8 = 0;
+    while (i as usize) < Plan::NODES {
+        let hold = holds[i as usize];
+        right = right
+            & hold_right(nodecount, window, i, hold)
+            & cause_right(normal, nodecount, i, hold.held, causes[i as usize]);
         i += 1;
     }
-    true
+    right
 }
 
 impl Master {

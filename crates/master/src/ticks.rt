@@ -21,20 +21,12 @@ impl Master {
         ensures { λ r. ⌜ r ≡ aged window self ⌝ }
     {
         let state = self.state;
-        let normal = is_normal(state);
         let young = self.holds;
         let old = self.causes;
-        let mut holds = [Master::NO_HOLD; Plan::NODES];
-        let mut causes = [Master::NEW; Plan::NODES];
-        let mut i: usize = 0;
-        while i < Plan::NODES {
-            let hold = young[i];
-            holds[i] = holds::older(window, hold);
-            causes[i] = causes::aged_out(normal, window, hold, old[i]);
-            i += 1;
-        }
-        self.holds = holds;
+        let causes = causes::all_aged_out(is_normal(state), window, young, old);
+        let holds = holds::all_older(window, young);
         self.causes = causes;
+        self.holds = holds;
         self.ticks = std::num::wrapping_add_u32(self.ticks, 1);
         self
     }

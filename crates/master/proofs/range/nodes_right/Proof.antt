@@ -1,35 +1,42 @@
--- Each permission and each cause so far is right. Assumes nothing.
-use Prim.Native.Nat.{ℕ, _-_, _≤_, _<_}
+-- The test of the places passed. Assumes nothing.
+use Prim.Native.Nat.{ℕ, _-_, _≤_, _+_}
 use mathlib.Core.Path.{_≡_, refl, sym, _∙_}
 use mathlib.Core.Bool.{Bool, true, false, _&&_}
 use native.Mathlib.Omega.{arith}
-use borrow.Author.Tests.{not-true, not-false}
 use lib.ListN.{length}
 use Rattle.folds.specs.Fold.{allTo}
-use Rattle.folds.proofs.AllAny.{and-l, and-r, all-none, all-more, all-false}
+use Rattle.folds.proofs.AllAny.{all-none, all-next}
 use Rattle.master.specs.Range.{holdRightAt, holdsRight, causeRightAt, causesRight}
 use borrow.Author.Needs.{needs}
 use Rattle.master.proofs.range.nodes_right.Statement.{statement}
 use Rattle.master.proofs.range.nodes_right.Tie as tie
 
--- one test of two that fails at one place
-one-false : (x y : Bool) (f g : ℕ → Bool) (n i : ℕ) → i < n → x ≡ f i → y ≡ g i → (x && y) ≡ false → (allTo f n && allTo g n) ≡ false
-one-false true y f g n i l e h w = rw (all-false g n i l (sym h ∙ w)) (none (allTo f n))
+-- two tests go on by one place each
+both-next : (r h w : Bool) (f g : ℕ → Bool) (i : ℕ) → r ≡ (allTo f i && allTo g i) → h ≡ f i → w ≡ g i → (r && h && w) ≡ (allTo f (i + 1) && allTo g (i + 1))
+both-next r h w f g i e a b = rw (e, a, b, all-next f i, all-next g i) (shuffle (allTo f i) (allTo g i) (f i) (g i))
   where
-    none : (b : Bool) → (b && false) ≡ false
-    none true = refl
-    none false = refl
-one-false false y f g n i l e h w = rw (all-false f n i l (sym e))
+    shuffle : (x y p q : Bool) → (((x && y) && p) && q) ≡ ((x && p) && (y && q))
+    shuffle true true p q = refl
+    shuffle true false true q = refl
+    shuffle true false false q = refl
+    shuffle false y p q = refl
 
 abbrev Inv-loop : tie.InvT-loop
-Inv-loop normal nodecount window holds causes i₀ i =
-    (i ≤ 16) × (length holds ≡ 16) × (length causes ≡ 16) × (allTo (holdRightAt nodecount window holds) i ≡ true) × (allTo (causeRightAt normal nodecount holds causes) i ≡ true)
+Inv-loop normal nodecount window holds causes right₀ i₀ right i =
+    (i ≤ 16) × (length holds ≡ 16) × (length causes ≡ 16)
+    × (right ≡ (allTo (holdRightAt nodecount window holds) i && allTo (causeRightAt normal nodecount holds causes) i))
 
 abbrev μ-loop : tie.MeasureT-loop
-μ-loop normal nodecount window holds causes i₀ i = 16 - i
+μ-loop normal nodecount window holds causes right₀ i₀ right i = 16 - i
 
 loop-holds : tie.Need-loop-holds Inv-loop μ-loop
-loop-holds c = search (needs, all-none)
+loop-holds c = (search needs, search needs, search needs, sym (rw (all-none (holdRightAt _ _ _), all-none)))
+
+cast-loop : tie.Need-cast-loop Inv-loop μ-loop
+cast-loop c = search needs
+
+cast-hold : tie.Need-cast-hold Inv-loop μ-loop
+cast-hold c = search needs
 
 mul-hold : tie.Need-mul-hold Inv-loop μ-loop
 mul-hold c = search needs
@@ -40,16 +47,14 @@ array-copy-out-hold c = search needs
 hold-right-requires : tie.Need-hold-right-requires Inv-loop μ-loop
 hold-right-requires c κs = search needs
 
+cast-cause-right : tie.Need-cast-cause-right Inv-loop μ-loop
+cast-cause-right c = search needs
+
 array-read-cause-right : tie.Need-array-read-cause-right Inv-loop μ-loop
 array-read-cause-right c = search needs
 
 cause-right-requires : tie.Need-cause-right-requires Inv-loop μ-loop
 cause-right-requires c κs = search needs
-
-returns : tie.Need-returns Inv-loop μ-loop
-unfolding holdsRight causesRight
-returns c =
-    sym (one-false _ _ _ _ 16 (c .before .before .before .before .before .loop .i) (omega arith) (c .before .before .hold-right .ensures) (c .before .cause-right .ensures) (not-true _ (c .if1 .taken)))
 
 add-i : tie.Need-add-i Inv-loop μ-loop
 add-i c = search needs
@@ -59,18 +64,15 @@ loop-less c = search needs
 
 loop-again : tie.Need-loop-again Inv-loop μ-loop
 loop-again c =
-    let l = c .before .before .before .before .before .loop in
-    let h = c .before .before .hold-right in
-    let w = c .before .cause-right in
-    let both : (h .result && w .result) ≡ true = not-false _ (c .if1 .left) in
-    (search needs, l .inv .1, l .inv .2, all-more _ _ (l .inv .3) (sym (h .ensures) ∙ and-l (h .result) (w .result) both), all-more _ _ (l .inv .4) (sym (w .ensures) ∙ and-r (h .result) (w .result) both))
+    let l = c .before .before .before .before .loop in
+    (search needs, search needs, search needs, both-next (l .right) (c .before .hold-right .result) (c .cause-right .result) _ _ (l .i) (l .inv .3) (c .before .hold-right .ensures) (c .cause-right .ensures))
 
-returns-2 : tie.Need-returns-2 Inv-loop μ-loop
+returns : tie.Need-returns Inv-loop μ-loop
 unfolding holdsRight causesRight
-returns-2 c =
+returns c =
     let l = c .before .loop in
     let e : l .i ≡ 16 = omega arith in
-    rw (rw e at (l .inv .3), rw e at (l .inv .4))
+    rw e at (l .inv .3)
 
 pub nodes-right-spec : {M : Type 1} → statement M
 nodes-right-spec =
@@ -79,13 +81,15 @@ nodes-right-spec =
     Inv-loop
     μ-loop
     loop-holds
+    cast-loop
+    cast-hold
     mul-hold
     array-copy-out-hold
     hold-right-requires
+    cast-cause-right
     array-read-cause-right
     cause-right-requires
-    returns
     add-i
     loop-less
     loop-again
-    returns-2)
+    returns)
