@@ -10,9 +10,9 @@ out=$root/target/firmware
 modules=$out/modules
 clang=$toolchain/bin/clang
 
-# What rattle tells clang, but for target, optimisation and position independence. By the threshold each call becomes one function: apart,
-# plans and states would be copied from frame to frame, for twice the stack.
-common="-mllvm -inline-threshold=3000 -ffunction-sections -fdata-sections -mllvm -trap-unreachable -mllvm -no-trap-after-noreturn \
+# What rattle tells clang, but for target, optimisation and position independence. By the thresholds each call becomes one function: apart,
+# plans and states would be copied from frame to frame, for twice the stack. The second is of calls behind many tests, as that which judges a plan's rows.
+common="-mllvm -inline-threshold=3000 -mllvm -inline-cold-callsite-threshold=3000 -ffunction-sections -fdata-sections -mllvm -trap-unreachable -mllvm -no-trap-after-noreturn \
 --no-default-config -no-canonical-prefixes -fintegrated-cc1 -fno-crash-diagnostics -Werror"
 
 # origin TARGET-VARIANT FLAGS
