@@ -28,22 +28,18 @@ use Rattle.master.specs.Changes.{powerOn}
 use Rattle.master.specs.Range as MasterRange
 use Rattle.master.specs.Step as MasterStep
 use Rattle.master.proofs.Refusals as MasterRefusals
-use Rattle.master_bytes.specs.States.{isMaster, masterOf, noMaster}
+use Rattle.master_bytes.specs.States.{isMaster, masterOf}
 use Rattle.master_bytes.specs.Events as MasterEvents
+use Rattle.master_bytes.proofs.StateTrips.{none-in-range}
 use Rattle.node.specs.Range as NodeRange
 use Rattle.node.specs.Step as NodeStep
 use Rattle.node_bytes.specs.States.{isNode, nodeOf, noNode}
 use Rattle.node_bytes.specs.Events as NodeEvents
 use Rattle.cxpi.specs.MasterCalls.{masterReply}
 
--- "bytes that are no state give 11": what they are taken for is out of range under every plan
-no-master : (sleeps : Bool) (nodecount : ℕ) (t : Times) → MasterRange.inRange sleeps nodecount t noMaster ≡ false
-unfolding MasterRange.inRange
-no-master true nodecount t = refl
-no-master false nodecount t = refl
-
+-- "bytes that are no state give 11"
 pub no-master-state : (p : Plan) (s : List ℕ) → isMaster s ≡ false → MasterRange.inRange (sleeps p) (p .nodecount) (p .times) (masterOf s) ≡ false
-no-master-state p s e = rw e (no-master (sleeps p) (p .nodecount) (p .times))
+no-master-state p s e = rw e (none-in-range (sleeps p) (p .nodecount) (p .times))
 
 no-node : (sleeps : Bool) (t : Times) → NodeRange.inRange sleeps t noNode ≡ false
 unfolding NodeRange.inRange

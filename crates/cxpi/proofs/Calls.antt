@@ -20,13 +20,13 @@ use Rattle.node_bytes.specs.Replies as NodeReplies
 use Rattle.cxpi.specs.MasterCalls.{changesState, masterLeaves, masterReplies}
 use Rattle.cxpi.specs.NodeCalls.{nodeLeaves, nodeReplies}
 
-module _ (r s : MasterReply.Reply) (is : r ≡ s) (state reply said : List ℕ) (e : said ≡ MasterReplies.replied (r .command) (r .lost) (r .node) reply) where
-  pub master-same : changesState (r .refusal) ≡ false → (r .refusal ≡ s .refusal) × (state ≡ masterLeaves s state) × (said ≡ masterReplies s reply)
-  master-same n = rw (← is, n) (refl, refl, e)
+module _ (r : MasterReply.Reply) (state reply said : List ℕ) (e : said ≡ MasterReplies.replied (r .command) (r .lost) (r .node) reply) where
+  pub master-same : changesState (r .refusal) ≡ false → (r .refusal ≡ r .refusal) × (state ≡ masterLeaves r state) × (said ≡ masterReplies r reply)
+  master-same n = rw n (refl, refl, e)
 
   pub master-changed : changesState (r .refusal) ≡ true → (after : List ℕ) → after ≡ sets state 0 (masterBytes (r .master))
-      → (r .refusal ≡ s .refusal) × (after ≡ masterLeaves s state) × (said ≡ masterReplies s reply)
-  master-changed c after f = rw (← is, c) (refl, f, e)
+      → (r .refusal ≡ r .refusal) × (after ≡ masterLeaves r state) × (said ≡ masterReplies r reply)
+  master-changed c after f = rw c (refl, f, e)
 
 module _ (r s : NodeReply.Reply) (is : r ≡ s) (state reply said : List ℕ) (e : said ≡ NodeReplies.replied (r .command) reply) where
   pub node-same : (r .refusal ≡ 0 → ⊥) → (r .refusal ≡ s .refusal) × (state ≡ nodeLeaves s state) × (said ≡ nodeReplies s reply)

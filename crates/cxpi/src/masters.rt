@@ -1,20 +1,27 @@
 // Calls on the master.
 ghost use mathlib.Core.Path.{_≡_};
-ghost use mathlib.Core.Bool.{true};
 ghost use lib.ListN.{length};
-ghost use Rattle.master.specs.Changes.{powerOn, refuse};
+ghost use Rattle.plan.specs.Rules.{planRefusal};
+ghost use Rattle.plan_bytes.specs.Record.{recordOf};
+ghost use Rattle.master.specs.declared.Command.{Command};
+ghost use Rattle.master.specs.Step.{stepUnder};
 ghost use Rattle.master_bytes.specs.Places.{masterLength};
+ghost use Rattle.master_bytes.specs.Replies.{replied};
+ghost use Rattle.master_bytes.specs.States.{masterOf};
 ghost use Rattle.cxpi.specs.PowerOn.{startRefusal};
 ghost use Rattle.cxpi.specs.MasterCalls.{masterOn, masterReply, changesState, masterLeaves, masterReplies};
 use crate::power_on::start_refusal;
 use master::Command;
-use master::Master;
+use master::Event;
 use master::Reply;
 use master_bytes::event_of;
+use master_bytes::master_of;
 use master_bytes::put_master;
 use master_bytes::put_power_on;
 use master_bytes::put_reply;
-use master_bytes::step_on;
+use master_bytes::row_for;
+use master_in_place::Outcome;
+use master_in_place::step_in_place;
 
 #[no_mangle]
 pub extern "C" fn cxpi_master_power_on(plan: &[u8], state: &mut [u8]) -> u32
@@ -28,31 +35,12 @@ pub extern "C" fn cxpi_master_power_on(plan: &[u8], state: &mut [u8]) -> u32
     0
 }
 
-fn refused(refusal: u8) -> Reply
-    ensures { λ r. ⌜ r ≡ refuse (powerOn true) refusal ⌝ }
+// Writes a reply that commands nothing and names no node.
+fn answered(reply: &mut [u8], refusal: u8, lost: u8) -> u32
+    ensures { λ r. ⌜ (r ≡ refusal) × (now (reply .exit) ≡ replied Command.Nothing lost 0 (now (reply .entry))) ⌝ }
 {
-    let master = Master::power_on(true);
-    Reply {
-        master,
-        command: Command::Nothing,
-        refusal,
-        node: 0,
-        lost: 0,
-    }
-}
-
-// The reply to a step on bytes, with nothing written yet. The plan is judged once, here, in its bytes.
-fn reply_to(plan: &[u8], state: &[u8], event: &[u8], room: usize) -> Reply
-    ensures { λ r. ⌜ r ≡ masterReply (now (plan .entry)) (now (state .entry)) (now (event .entry)) room ⌝ }
-{
-    let refusal = plan_bytes::refusal_of(plan);
-    if refusal != 0 {
-        return refused(refusal);
-    }
-    if room < master_bytes::REPLY_LENGTH {
-        return refused(10);
-    }
-    step_on(plan, state, event_of(event))
+    put_reply(reply, Command::Nothing, lost, 0);
+    refusal as u32
 }
 
 fn changes_state(refusal: u8) -> bool
@@ -61,6 +49,52 @@ fn changes_state(refusal: u8) -> bool
     (refusal == 0) | (refusal == 13) | (refusal == 14)
 }
 
+// Writes what the machine gives.
+fn give(given: Reply, state: &mut [u8], reply: &mut [u8]) -> u32
+    ensures { λ r. ⌜ (r ≡ given .refusal) × (now (state .exit) ≡ masterLeaves given (now (state .entry))) × (now (reply .exit) ≡ masterReplies given (now (reply .entry))) ⌝ }
+{
+    let refusal = given.refusal;
+    let command = given.command;
+    put_reply(reply, command, given.lost, given.node);
+    if !changes_state(refusal) {
+        return refusal as u32;
+    }
+    let master = given.master;
+    put_master(state, master);
+    refusal as u32
+}
+
+// A step under a plan that is accepted. The state is unpacked and judged once; then ticks and answers, which fill a slot, are done in its bytes where
+// that is simple, and all others by the master that was unpacked.
+fn step_under(plan: &[u8], state: &mut [u8], event: Event, reply: &mut [u8]) -> u32
+    requires { ⌜ planRefusal (recordOf (now plan)) ≡ 0 ⌝ }
+    ensures { λ r. ⌜ (r ≡ stepUnder (recordOf (now (plan .entry))) (masterOf (now (state .entry))) event .refusal)
+        × (now (state .exit) ≡ masterLeaves (stepUnder (recordOf (now (plan .entry))) (masterOf (now (state .entry))) event) (now (state .entry)))
+        × (now (reply .exit) ≡ masterReplies (stepUnder (recordOf (now (plan .entry))) (masterOf (now (state .entry))) event) (now (reply .entry))) ⌝ }
+{
+    // No state. The compiler, told the length, spares the tests of each byte.
+    if state.len() != master_bytes::LENGTH {
+        return answered(reply, 11, 0);
+    }
+    let master = master_of(state);
+    let times = plan_bytes::times_of(plan);
+    let sleeps = plan_bytes::sleeps(plan);
+    let nodes = plan_bytes::node_count(plan);
+    if !master.in_range(sleeps, nodes, times) {
+        return answered(reply, 11, 0);
+    }
+    let outcome = step_in_place(plan, state, event);
+    match outcome {
+        Outcome::Done(lost) => answered(reply, 0, lost),
+        Outcome::Left => {
+            let row = row_for(plan, event);
+            let given = master.step_in_range(sleeps, nodes, times, row, event);
+            give(given, state, reply)
+        }
+    }
+}
+
+// The plan is judged once, in its bytes.
 #[no_mangle]
 pub extern "C" fn cxpi_master_step(
     plan: &[u8],
@@ -72,14 +106,12 @@ pub extern "C" fn cxpi_master_step(
         × (now (state .exit) ≡ masterLeaves (masterReply (now (plan .entry)) (now (state .entry)) (now (event .entry)) (length (now (reply .entry)))) (now (state .entry)))
         × (now (reply .exit) ≡ masterReplies (masterReply (now (plan .entry)) (now (state .entry)) (now (event .entry)) (length (now (reply .entry)))) (now (reply .entry))) ⌝ }
 {
-    let given = reply_to(plan, state, event, reply.len());
-    let refusal = given.refusal;
-    let command = given.command;
-    put_reply(reply, command, given.lost, given.node);
-    if !changes_state(refusal) {
-        return refusal as u32;
+    let refusal = plan_bytes::refusal_of(plan);
+    if refusal != 0 {
+        return answered(reply, refusal, 0);
     }
-    let master = given.master;
-    put_master(state, master);
-    refusal as u32
+    if reply.len() < master_bytes::REPLY_LENGTH {
+        return 10;
+    }
+    step_under(plan, state, event_of(event), reply)
 }

@@ -1,13 +1,12 @@
 // The C firmware host's call for the master's events of a frame slot. An archive of its own: the steps of `cxpi` stay as the compiler makes them.
 ghost use mathlib.Core.Path.{_≡_};
-ghost use Rattle.folds.specs.Fold.{pick};
-ghost use Rattle.plan.specs.declared.Lookup.{Lookup};
-ghost use Rattle.plan.specs.Find.{risingRow};
 ghost use Rattle.plan_bytes.specs.Record.{recordOf};
+ghost use Rattle.master.specs.Step.{masterStep};
+ghost use Rattle.master_events.specs.Replies.{replyRecord};
 ghost use Rattle.master_batch.specs.Batch.{stepped, batchOf, batchReplies};
 ghost use Rattle.master_bytes.specs.States.{masterBytes, masterOf};
-ghost use Rattle.master_in_place.specs.InPlace.{isKept, accepting};
 ghost use Rattle.cxpi_batch.specs.BatchCalls.{standing, leftUnder, batchLeaves};
+use master::Event;
 use master_bytes::master_of;
 use master_bytes::put_master;
 use master_bytes::step_on;
@@ -15,12 +14,8 @@ use master_events::EventRecord;
 use master_events::ReplyRecord;
 use master_events::command_number;
 use master_events::event_of;
-use master_in_place::accepting;
-use master_in_place::age;
-use master_in_place::is_kept;
-use master_in_place::is_quiet;
-use master_in_place::keep_answer;
-use plan::Lookup;
+use master_in_place::Outcome;
+use master_in_place::step_in_place;
 
 // The number that plan and state give every event. Where it is 0 the state's bytes are those that its master is packed in.
 fn number_of(plan: &[u8], state: &[u8]) -> u8
@@ -50,13 +45,13 @@ fn opened(plan: &[u8], state: &mut [u8]) -> u8
 }
 
 // An event by the machine itself.
-fn machine_step(plan: &[u8], state: &mut [u8], event: EventRecord) -> ReplyRecord
+fn machine_step(plan: &[u8], state: &mut [u8], event: Event) -> ReplyRecord
     requires { ⌜ standing (recordOf (now plan)) (masterOf (now state)) ≡ 0 ⌝ }
-    ensures { λ r. ⌜ (r ≡ stepped (recordOf (now (plan .entry))) (masterOf (now (state .entry))) event .reply)
-        × (now (state .exit) ≡ masterBytes (stepped (recordOf (now (plan .entry))) (masterOf (now (state .entry))) event .master))
-        × (masterOf (now (state .exit)) ≡ stepped (recordOf (now (plan .entry))) (masterOf (now (state .entry))) event .master) ⌝ }
+    ensures { λ r. ⌜ (r ≡ replyRecord (masterStep (recordOf (now (plan .entry))) (masterOf (now (state .entry))) event))
+        × (now (state .exit) ≡ masterBytes (masterStep (recordOf (now (plan .entry))) (masterOf (now (state .entry))) event .master))
+        × (masterOf (now (state .exit)) ≡ masterStep (recordOf (now (plan .entry))) (masterOf (now (state .entry))) event .master) ⌝ }
 {
-    let given = step_on(plan, state, event_of(event));
+    let given = step_on(plan, state, event);
     let master = given.master;
     let command = given.command;
     put_master(state, master);
@@ -65,17 +60,6 @@ fn machine_step(plan: &[u8], state: &mut [u8], event: EventRecord) -> ReplyRecor
         node: given.node,
         command: command_number(command),
         lost: given.lost,
-    }
-}
-
-// The row of an answer that is kept in the state's bytes.
-fn kept_row(plan: &[u8], state: &[u8], event: EventRecord) -> Lookup
-    ensures { λ r. ⌜ r ≡ pick (isKept (now (state .entry)) event) (accepting (risingRow (recordOf (now (plan .entry))) (event .reqid)) (event .length)) Lookup.Missing ⌝ }
-{
-    if is_kept(state, event) {
-        accepting(plan_bytes::rising_row_of(plan, event.reqid), event.length)
-    } else {
-        Lookup::Missing
     }
 }
 
@@ -98,26 +82,16 @@ fn reply_of(plan: &[u8], state: &mut [u8], number: u8, event: EventRecord) -> Re
         × (now (state .exit) ≡ leftUnder number (now (state .entry)) (stepped (recordOf (now (plan .entry))) (masterOf (now (state .entry))) event .master))
         × (masterOf (now (state .exit)) ≡ stepped (recordOf (now (plan .entry))) (masterOf (now (state .entry))) event .master) ⌝ }
 {
-    if number != 0 {
+    // Under 0 a state has its length. The compiler, told so, spares the tests of each byte.
+    if (number != 0) | (state.len() != master_bytes::LENGTH) {
         return replied(number, 0);
     }
-    // A known length spares the tests of each byte.
-    if state.len() == master_bytes::LENGTH {
-        if is_quiet(state, event) {
-            let times = plan_bytes::times_of(plan);
-            age(state, plan_bytes::node_count(plan), times.window);
-            return replied(0, 0);
-        }
-        let row = kept_row(plan, state, event);
-        match row {
-            Lookup::Found(found) => {
-                let lost = keep_answer(state, found, event.count);
-                return replied(0, lost);
-            }
-            Lookup::Missing => {}
-        }
+    let happened = event_of(event);
+    let outcome = step_in_place(plan, state, happened);
+    match outcome {
+        Outcome::Done(lost) => replied(0, lost),
+        Outcome::Left => machine_step(plan, state, happened),
     }
-    machine_step(plan, state, event)
 }
 
 // Each event in order, its reply to its own place. Plan and state are judged once.

@@ -51,12 +51,13 @@ actWith sleeps nodecount t row m (Event.Permission permitted) = permissionStep p
 actWith sleeps nodecount t row m Event.SleepAsk = sleepAskStep sleeps nodecount m
 actWith sleeps nodecount t row m (Event.SendResult sent) = sendResultStep sent m
 
--- "then 11, 15, 16, then the rest by number", where the plan is judged
+-- "then 11, 15, 16, then the rest by number": from 15 on, where plan and state are judged
+abbrev pub stepInRange : Bool → ℕ → Times → Lookup → Master → Event → Reply
+stepInRange sleeps nodecount t row m e = pick (eventRight e) (actWith sleeps nodecount t row m e) (refuse m 15)
+
+-- from 11 on, where the plan is judged
 abbrev pub stepWith : Bool → ℕ → Times → Lookup → Master → Event → Reply
-stepWith sleeps nodecount t row m e =
-    pick (inRange sleeps nodecount t m)
-    (pick (eventRight e) (actWith sleeps nodecount t row m e) (refuse m 15))
-    (refuse m 11)
+stepWith sleeps nodecount t row m e = pick (inRange sleeps nodecount t m) (stepInRange sleeps nodecount t row m e) (refuse m 11)
 
 -- the same under a plan
 abbrev pub act : Plan → Master → Event → Reply

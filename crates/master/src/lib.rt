@@ -1,7 +1,7 @@
 // The master machine.
 ghost use mathlib.Core.Path.{_≡_};
 ghost use Rattle.master.specs.Changes.{powerOn, silent, commands, refuse};
-ghost use Rattle.master.specs.Step.{eventRight, rowAsked, actWith, stepWith, stepUnder, judgedStep, masterStep};
+ghost use Rattle.master.specs.Step.{eventRight, rowAsked, actWith, stepInRange, stepWith, stepUnder, judgedStep, masterStep};
 use machine::State;
 use machine::start_state;
 use plan::Lookup;
@@ -214,7 +214,25 @@ impl Master {
         }
     }
 
-    // A step of the master with what it needs of a plan that is judged: the row is the one that the event asks for.
+    // A step of a master that is in range, with what it needs of a plan that is judged: the row is the one that the event asks for.
+    pub fn step_in_range(
+        self,
+        sleeps: bool,
+        nodecount: u8,
+        times: Times,
+        row: Lookup,
+        event: Event,
+    ) -> Reply
+        ensures { λ r. ⌜ r ≡ stepInRange sleeps nodecount times row self event ⌝ }
+    {
+        if is_right(event) {
+            self.act_with(sleeps, nodecount, times, row, event)
+        } else {
+            refuse(self, 15)
+        }
+    }
+
+    // The same of a master that is not judged yet.
     pub fn step_with(
         self,
         sleeps: bool,
@@ -226,11 +244,7 @@ impl Master {
         ensures { λ r. ⌜ r ≡ stepWith sleeps nodecount times row self event ⌝ }
     {
         if self.in_range(sleeps, nodecount, times) {
-            if is_right(event) {
-                self.act_with(sleeps, nodecount, times, row, event)
-            } else {
-                refuse(self, 15)
-            }
+            self.step_in_range(sleeps, nodecount, times, row, event)
         } else {
             refuse(self, 11)
         }

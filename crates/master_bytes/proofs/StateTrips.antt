@@ -11,6 +11,7 @@ use native.Mathlib.Decide.{decLt}
 use borrow.Author.Tests.{eq-eqb, ne-eqb, ltb-true, eqb-true}
 use Rattle.folds.specs.Fold.{tab}
 use Rattle.folds.proofs.AllAny.{halves, all-at, all-intro}
+use Rattle.folds.proofs.Choices.{no-way}
 use Rattle.folds.proofs.Stores.{sets-append}
 use Rattle.folds.proofs.Tables.{tab-of, getD-tab, length-tab, tab-ext}
 use Rattle.blocks.specs.Bytes.{byte, highByte, lowByte, tableAt}
@@ -19,12 +20,14 @@ use Rattle.blocks.proofs.Parts.{head-and-rest}
 use Rattle.machine.specs.declared.State.{State}
 use Rattle.machine.specs.State.{startState}
 use Rattle.machine.specs.Bytes.{stateByte, stateOf, flagOf}
+use Rattle.plan.specs.declared.Times.{Times}
 use Rattle.machine.proofs.ByteTrips.{state-back, state-byte-back, state-byte-low, flag-back, flag-byte-back, flag-byte-low}
 use Rattle.master.specs.declared.Phase.{Phase}
 use Rattle.master.specs.declared.Hold.{Hold}
 use Rattle.master.specs.declared.Master.{Master}
 use Rattle.master.specs.Changes.{noHold, noCauses, noCounts, powerOn}
-use Rattle.master_bytes.specs.States.{phaseByte, phaseOf, masterHead, holdBytes, holdByteAt, holdsBytes, holdOf, holdsOf, causeOf, causesOf, masterBytes, flagAt, isMaster, masterFrom, masterOf}
+use Rattle.master.specs.Range.{inRange}
+use Rattle.master_bytes.specs.States.{phaseByte, phaseOf, masterHead, holdBytes, holdByteAt, holdsBytes, holdOf, holdsOf, causeOf, causesOf, masterBytes, flagAt, isMaster, masterFrom, noMaster, masterOf}
 use Rattle.master_bytes.proofs.Permissions.{hold-three}
 
 phase-back : (x : Phase) → phaseOf (phaseByte x) ≡ x
@@ -43,6 +46,19 @@ phase-byte-back (suc (suc (suc (suc b)))) h = absurd (omega arith)
 pub other-length : (s : List ℕ) → (length s ≡ 201 → ⊥) → isMaster s ≡ false
 unfolding isMaster
 other-length s n = rw (ne-eqb (length s) 201 n)
+
+-- "bytes that are no state give 11": what they are taken for is out of range under every plan
+pub none-in-range : (sleeps : Bool) (nodecount : ℕ) (t : Times) → inRange sleeps nodecount t noMaster ≡ false
+unfolding inRange
+none-in-range true nodecount t = refl
+none-in-range false nodecount t = refl
+
+state-is : (sleeps : Bool) (nodecount : ℕ) (t : Times) (s : List ℕ) → inRange sleeps nodecount t (masterOf s) ≡ true → isMaster s ≡ true
+state-is sleeps nodecount t s e = go (isMaster s) refl
+  where
+    go : (b : Bool) → isMaster s ≡ b → isMaster s ≡ true
+    go true h = h
+    go false h = no-way (sym (none-in-range sleeps nodecount t) ∙ (rw h at e))
 
 -- the bytes before the counts
 front-long : (m : Master) → length (masterHead m ++ holdsBytes (m .holds)) ≡ 57
@@ -227,3 +243,14 @@ module _ (s : List ℕ) (is : isMaster s ≡ true) (bytes : (o : ℕ) → byte s
   pub bytes-back : masterBytes (masterOf s) ≡ s
   unfolding masterBytes causesOf
   bytes-back = rw is (head-and-rest s (masterHead (masterFrom s) ++ holdsBytes (holdsOf s) ++ tableAt s 57) 185 16 size counts-are)
+
+-- bytes whose master is in range are a state's
+module _ (sleeps : Bool) (nodecount : ℕ) (t : Times) (s : List ℕ) (right : inRange sleeps nodecount t (masterOf s) ≡ true) where
+  pub range-long : length s ≡ 201
+  unfolding isMaster
+  range-long =
+      let is : isMaster s ≡ true = state-is sleeps nodecount t s right in
+      eqb-true (length s) 201 (search halves depth 6)
+
+  pub range-packed : ((o : ℕ) → byte s o < 256) → s ≡ masterBytes (masterOf s)
+  range-packed bytes = sym (bytes-back s (state-is sleeps nodecount t s right) bytes)

@@ -19,4 +19,5 @@ pub use states::hold_of;
 pub use states::master_of;
 pub use states::put_master;
 pub use states::put_power_on;
+pub use steps::row_for;
 pub use steps::step_on;

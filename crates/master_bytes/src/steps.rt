@@ -9,7 +9,7 @@ use master::Reply;
 use plan::Lookup;
 
 // The row that an event asks the plan for.
-fn row_for(plan: &[u8], event: Event) -> Lookup
+pub fn row_for(plan: &[u8], event: Event) -> Lookup
     ensures { λ r. ⌜ r ≡ rowAsked (recordOf (now (plan .entry))) event ⌝ }
 {
     match event {

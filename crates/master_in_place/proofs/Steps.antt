@@ -1,11 +1,11 @@
 -- The events that are done in the bytes of a state, as the master's own step has them.
 use Prim.Native.Nat.{ℕ, _<_}
 use mathlib.Core.Path.{_≡_, refl, sym, _∙_, ap}
-use mathlib.Core.Bool.{Bool, true, false, _&&_, _||_}
+use mathlib.Core.Bool.{Bool, true, false, not, _&&_, _||_}
 use lib.Dec.{ltb, eqb}
 use lib.ListN.{getD}
 use native.Mathlib.Omega.{arith}
-use borrow.Author.Tests.{eqb-true, ltb-true}
+use borrow.Author.Tests.{eqb-true, ltb-true, not-true}
 use Rattle.folds.specs.Fold.{pick}
 use Rattle.folds.proofs.AllAny.{and-l, and-r}
 use Rattle.folds.proofs.Choices.{no-way}
@@ -25,14 +25,13 @@ use Rattle.plan.proofs.Lookups.{found-row, found-publisher}
 use Rattle.plan.proofs.RisingRows.{rising-found}
 use Rattle.master.specs.declared.Phase.{Phase}
 use Rattle.master.specs.declared.Answer.{Answer}
+use Rattle.master.specs.declared.Event.{Event}
 use Rattle.master.specs.declared.Master.{Master}
 use Rattle.master.specs.Changes.{causeNew, withCause, hold, silent}
 use Rattle.master.specs.Range.{inRange}
 use Rattle.master.specs.Answers.{lostAfter, counted, reports, answerBy, answerStep}
 use Rattle.master.specs.Ticks.{aged, tickBy}
-use Rattle.master.specs.Step.{masterStep}
-use Rattle.master_events.specs.declared.EventRecord.{EventRecord}
-use Rattle.master_events.specs.Events.{eventOf}
+use Rattle.master.specs.Step.{stepUnder}
 use Rattle.master_bytes.specs.States.{phaseByte, masterBytes}
 use Rattle.master_in_place.specs.InPlace.{stays, isQuiet, isKept, accepting}
 use Rattle.master_in_place.proofs.Masters.{keeps}
@@ -45,13 +44,10 @@ quiet-by t State.Normal Phase.Sending n e = refl
 quiet-by t State.Normal Phase.Withdrawn n e = refl
 quiet-by t State.Normal Phase.Closing n e = no-way e
 
-module _ (p : Plan) (m : Master) (e : EventRecord) (ok : planRefusal p ≡ 0) (right : inRange (sleeps p) (p .nodecount) (p .times) m ≡ true) where
-  pub quiet-tick : isQuiet (masterBytes m) e ≡ true → masterStep p m (eventOf e) ≡ silent (aged (p .times .window) m)
-  unfolding masterBytes
-  quiet-tick q =
-      let quiet = stays (stateByte (m .state)) (phaseByte (m .phase)) in
-      let kind : e .kind ≡ 0 = eqb-true _ _ (and-l (eqb (e .kind) 0) quiet q) in
-      rw (ok, right, kind) (quiet-by (p .times) (m .state) (m .phase) (aged (p .times .window) m) (and-r (eqb (e .kind) 0) quiet q))
+pub quiet-tick : (p : Plan) (m : Master) → inRange (sleeps p) (p .nodecount) (p .times) m ≡ true → isQuiet (masterBytes m) ≡ true
+    → stepUnder p m Event.Tick ≡ silent (aged (p .times .window) m)
+unfolding masterBytes
+quiet-tick p m right q = rw right (quiet-by (p .times) (m .state) (m .phase) (aged (p .times .window) m) q)
 
 -- what is known of a row that is accepted
 record Accepts (found : Lookup) (length : ℕ) (row : Row) : Type 0 where
@@ -90,36 +86,33 @@ whole-answer m row a normal node whole long permits calm =
     by-count false = refl
 
 -- a kept answer's row and what the step makes of it
-pub record Keeps (p : Plan) (m : Master) (e : EventRecord) (row : Row) : Type 0 where
+pub record Keeps (p : Plan) (m : Master) (a : Answer) (row : Row) : Type 0 where
   pub node : row .publisher < 16
   pub reqid : row .reqid < 128
-  pub step : masterStep p m (eventOf e) ≡ reports (pick (isCounted row) (lostAfter (getD (m .counts) (row .reqid) 0) (e .count)) 0) (keeps row (e .count) m)
+  pub step : stepUnder p m (Event.Answer a) ≡ reports (pick (isCounted row) (lostAfter (getD (m .counts) (row .reqid) 0) (a .count)) 0) (keeps row (a .count) m)
 
-pub kept-answer : (p : Plan) (m : Master) (e : EventRecord) (row : Row) → planRefusal p ≡ 0 → inRange (sleeps p) (p .nodecount) (p .times) m ≡ true → isKept (masterBytes m) e ≡ true
-    → accepting (risingRow p (e .reqid)) (e .length) ≡ Lookup.Found row → Keeps p m e row
+pub kept-answer : (p : Plan) (m : Master) (a : Answer) (row : Row) → planRefusal p ≡ 0 → inRange (sleeps p) (p .nodecount) (p .times) m ≡ true → isKept (masterBytes m) a ≡ true
+    → accepting (risingRow p (a .reqid)) (a .length) ≡ Lookup.Found row → Keeps p m a row
 unfolding masterBytes
-kept-answer p m e row ok right k a =
-    let kind = eqb (e .kind) 1 in
+kept-answer p m a row ok right k f =
     let normal = eqb (stateByte (m .state)) 0 in
-    let fits = ltb (e .reqid) reqids && ltb (e .count) seqCounts in
-    let bits = eqb (e .permission) 1 && eqb (e .wake) 0 in
-    let whole = eqb (e .result) 0 in
-    let four = and-l (kind && normal && fits && bits) whole k in
-    let three = and-l (kind && normal && fits) bits four in
-    let two = and-l (kind && normal) fits three in
-    let is-kind : e .kind ≡ 1 = eqb-true _ _ (and-l kind normal two) in
-    let is-normal : m .state ≡ State.Normal = normal-only (m .state) (and-r kind normal two) in
-    let is-right : (ltb (e .reqid) reqids && ltb (e .count) seqCounts) ≡ true = and-r (kind && normal) fits three in
-    let is-bits = and-r (kind && normal && fits) bits four in
-    let is-permission : e .permission ≡ 1 = eqb-true _ _ (and-l (eqb (e .permission) 1) (eqb (e .wake) 0) is-bits) in
-    let is-wake : e .wake ≡ 0 = eqb-true _ _ (and-r (eqb (e .permission) 1) (eqb (e .wake) 0) is-bits) in
-    let is-whole : e .result ≡ 0 = eqb-true _ _ (and-r (kind && normal && fits && bits) whole k) in
-    let known = accepts-only (risingRow p (e .reqid)) (e .length) row a in
-    let found : findRow p (e .reqid) ≡ Lookup.Found row = sym (rising-found p ok (e .reqid)) ∙ known .is in
-    let place = found-row p (e .reqid) row found in
-    let publisher = found-publisher p (e .reqid) row ok found (known .node) in
+    let fits = ltb (a .reqid) reqids && ltb (a .count) seqCounts in
+    let bits = a .permission && not (a .wake) in
+    let whole = eqb (a .result) 0 in
+    let three = and-l (normal && fits && bits) whole k in
+    let two = and-l (normal && fits) bits three in
+    let is-normal : m .state ≡ State.Normal = normal-only (m .state) (and-l normal fits two) in
+    let is-right : (ltb (a .reqid) reqids && ltb (a .count) seqCounts) ≡ true = and-r normal fits two in
+    let is-bits = and-r (normal && fits) bits three in
+    let is-permission : a .permission ≡ true = and-l (a .permission) (not (a .wake)) is-bits in
+    let is-wake : a .wake ≡ false = not-true (a .wake) (and-r (a .permission) (not (a .wake)) is-bits) in
+    let is-whole : a .result ≡ 0 = eqb-true _ _ (and-r (normal && fits && bits) whole k) in
+    let known = accepts-only (risingRow p (a .reqid)) (a .length) row f in
+    let found : findRow p (a .reqid) ≡ Lookup.Found row = sym (rising-found p ok (a .reqid)) ∙ known .is in
+    let place = found-row p (a .reqid) row found in
+    let publisher = found-publisher p (a .reqid) row ok found (known .node) in
     record {
       node = omega (arith, publisher, nodes-few p (accepted p ok .nodes));
-      reqid = omega (arith, place .same, ltb-true (e .reqid) reqids (and-l (ltb (e .reqid) reqids) (ltb (e .count) seqCounts) is-right));
-      step = rw (ok, right, is-kind, is-permission, is-wake, is-right, found) (whole-answer m row _ is-normal (known .node) is-whole (known .long) refl refl);
+      reqid = omega (arith, place .same, ltb-true (a .reqid) reqids (and-l (ltb (a .reqid) reqids) (ltb (a .count) seqCounts) is-right));
+      step = rw (right, is-right, found) (whole-answer m row a is-normal (known .node) is-whole (known .long) is-permission is-wake);
     }

@@ -1,6 +1,6 @@
 -- A tick and a whole answer in the bytes of a master's state.
 use Prim.Native.Nat.{ℕ, _+_, _*_, _%_, _^_}
-use mathlib.Core.Bool.{Bool, true, _&&_, _||_}
+use mathlib.Core.Bool.{Bool, true, not, _&&_, _||_}
 use mathlib.Core.List.{List, [], _∷_}
 use lib.Dec.{leb, ltb, eqb}
 use lib.ListN.{take}
@@ -8,16 +8,20 @@ use lib.Seq.{sets}
 use Rattle.folds.specs.Fold.{pick}
 use Rattle.blocks.specs.Bytes.{byte, longNumber, fourBytes}
 use Rattle.plan.specs.declared.Row.{Row}
+use Rattle.plan.specs.declared.Plan.{Plan}
 use Rattle.plan.specs.declared.Lookup.{Lookup}
 use Rattle.plan.specs.Limits.{reqids, seqCounts}
 use Rattle.plan.specs.Answers.{masterNumber, isCounted, accepts}
+use Rattle.plan.specs.Find.{risingRow}
+use Rattle.master.specs.declared.Answer.{Answer}
+use Rattle.master.specs.declared.Event.{Event}
 use Rattle.master.specs.declared.Hold.{Hold}
 use Rattle.master.specs.Answers.{lostAfter}
 use Rattle.master.specs.Changes.{causeNew, causeAged}
 use Rattle.master.specs.Ticks.{older, allOlder, allAgedOut}
-use Rattle.master_events.specs.declared.EventRecord.{EventRecord}
 use Rattle.master_bytes.specs.Places.{stateAt, phaseAt, ticksAt, holdsAt, countsAt, causesAt}
 use Rattle.master_bytes.specs.States.{holdBytes, holdsBytes, holdOf, holdsOf, causesOf}
+use Rattle.master_in_place.specs.declared.Outcome.{Outcome}
 
 abbrev pub isNormalAt : List ℕ → Bool
 isNormalAt s = eqb (byte s stateAt) 0
@@ -26,8 +30,8 @@ isNormalAt s = eqb (byte s stateAt) 0
 abbrev pub stays : ℕ → ℕ → Bool
 stays state phase = eqb state 2 || (eqb state 0 && ltb phase 3)
 
-abbrev pub isQuiet : List ℕ → EventRecord → Bool
-isQuiet s e = eqb (e .kind) 0 && stays (byte s stateAt) (byte s phaseAt)
+abbrev pub isQuiet : List ℕ → Bool
+isQuiet s = stays (byte s stateAt) (byte s phaseAt)
 
 -- "held ages up by one, and one above W is let go", of the first nodes: from N on none is held
 unfoldable pub agedHolds : ℕ → ℕ → List ℕ → List ℕ
@@ -54,14 +58,16 @@ abbrev pub agedBytes : ℕ → ℕ → List ℕ → List ℕ
 agedBytes nodecount window s = ticked (agedNodes nodecount window s)
 
 -- "Answer (Normal only)", undamaged, with permission bit 1 and wake bit 0
-abbrev pub isKept : List ℕ → EventRecord → Bool
-isKept s e =
-    eqb (e .kind) 1 && isNormalAt s && (ltb (e .reqid) reqids && ltb (e .count) seqCounts) && (eqb (e .permission) 1 && eqb (e .wake) 0) && eqb (e .result) 0
+abbrev pub isKept : List ℕ → Answer → Bool
+isKept s a = isNormalAt s && (ltb (a .reqid) reqids && ltb (a .count) seqCounts) && (a .permission && not (a .wake)) && eqb (a .result) 0
 
 -- its row, where it is a node's and accepts the length
 abbrev pub accepting : Lookup → ℕ → Lookup
 accepting Lookup.Missing length = Lookup.Missing
 accepting (Lookup.Found row) length = pick (eqb (row .publisher) masterNumber) Lookup.Missing (pick (accepts row length) (Lookup.Found row) Lookup.Missing)
+
+abbrev pub keptRow : Plan → List ℕ → Answer → Lookup
+keptRow p s a = pick (isKept s a) (accepting (risingRow p (a .reqid)) (a .length)) Lookup.Missing
 
 -- "where the row has a count, report as lost .., and store it"
 abbrev pub lostBefore : Row → ℕ → List ℕ → ℕ
@@ -74,3 +80,31 @@ countKept row count s = pick (isCounted row) (sets s (countsAt + row .reqid) (co
 abbrev pub answerKept : Row → ℕ → List ℕ → List ℕ
 answerKept row count s =
     sets (sets (countKept row count s) (holdsAt + 3 * row .publisher) (holdBytes (record { held = true; age = 0 }))) (causesAt + row .publisher) (causeNew ∷ [])
+
+-- an answer, by its row
+abbrev pub answerOutcome : Lookup → ℕ → List ℕ → Outcome
+answerOutcome Lookup.Missing count s = Outcome.Left
+answerOutcome (Lookup.Found row) count s = Outcome.Done (lostBefore row count s)
+
+abbrev pub answerLeaves : Lookup → ℕ → List ℕ → List ℕ
+answerLeaves Lookup.Missing count s = s
+answerLeaves (Lookup.Found row) count s = answerKept row count s
+
+-- what is done of an event in a state's bytes, and what that leaves there
+abbrev pub outcome : Plan → List ℕ → Event → Outcome
+outcome p s Event.Tick = pick (isQuiet s) (Outcome.Done 0) Outcome.Left
+outcome p s (Event.Answer a) = answerOutcome (keptRow p s a) (a .count) s
+outcome p s Event.Pulse = Outcome.Left
+outcome p s Event.WakeAsk = Outcome.Left
+outcome p s (Event.Permission permitted) = Outcome.Left
+outcome p s Event.SleepAsk = Outcome.Left
+outcome p s (Event.SendResult sent) = Outcome.Left
+
+abbrev pub leaves : Plan → List ℕ → Event → List ℕ
+leaves p s Event.Tick = pick (isQuiet s) (agedBytes (p .nodecount) (p .times .window) s) s
+leaves p s (Event.Answer a) = answerLeaves (keptRow p s a) (a .count) s
+leaves p s Event.Pulse = s
+leaves p s Event.WakeAsk = s
+leaves p s (Event.Permission permitted) = s
+leaves p s Event.SleepAsk = s
+leaves p s (Event.SendResult sent) = s

@@ -5,14 +5,18 @@ ghost use Prim.Native.Nat.{_+_, _*_};
 ghost use lib.Dec.{ltb};
 ghost use lib.Seq.{sets};
 ghost use Rattle.folds.specs.Fold.{pick};
+ghost use Rattle.plan_bytes.specs.Record.{recordOf};
+ghost use Rattle.master.specs.declared.Event.{Event};
 ghost use Rattle.master_bytes.specs.Places.{holdsAt};
 ghost use Rattle.master_bytes.specs.States.{holdBytes};
-ghost use Rattle.master_in_place.specs.InPlace.{isQuiet, nodeAged, agedNodes, ticked, agedBytes, isKept, accepting, lostBefore, countKept, answerKept};
+ghost use Rattle.master_in_place.specs.InPlace.{isQuiet, nodeAged, agedNodes, ticked, agedBytes, isKept, accepting, keptRow, lostBefore, countKept, answerKept, outcome, leaves};
 use blocks::byte_at;
 use blocks::long_number;
 use blocks::number_at;
 use blocks::put;
 use machine::flag_byte;
+use master::Answer;
+use master::Event;
 use master::Hold;
 use master::Master;
 use master::lost_after;
@@ -24,10 +28,17 @@ use master_bytes::PHASE_AT;
 use master_bytes::STATE_AT;
 use master_bytes::TICKS_AT;
 use master_bytes::hold_of;
-use master_events::EventRecord;
 use plan::Lookup;
 use plan::Plan;
 use plan::Row;
+
+// Whether an event is done in the bytes of a state.
+pub enum Outcome {
+    // with the answers lost before it; its reply commands nothing and is no refusal
+    Done(u8),
+    // left to the machine
+    Left,
+}
 
 fn put_byte(state: &mut [u8], offset: usize, value: u8)
     ensures { λ _. ⌜ now (state .exit) ≡ sets (now (state .entry)) offset (value ∷ []) ⌝ }
@@ -89,35 +100,35 @@ fn next_tick(state: &mut [u8])
     put(state, TICKS_AT, &bytes[..]);
 }
 
-// Whether an event is a tick that leaves state and phase.
-pub fn is_quiet(state: &[u8], event: EventRecord) -> bool
-    ensures { λ r. ⌜ r ≡ isQuiet (now (state .entry)) event ⌝ }
+// Whether a tick leaves state and phase.
+fn is_quiet(state: &[u8]) -> bool
+    ensures { λ r. ⌜ r ≡ isQuiet (now (state .entry)) ⌝ }
 {
     let sleeps = byte_at(state, STATE_AT) == 2;
     let stays = (byte_at(state, STATE_AT) == 0) & (byte_at(state, PHASE_AT) < 3);
-    (event.kind == 0) & (sleeps | stays)
+    sleeps | stays
 }
 
 // A tick that leaves state and phase.
-pub fn age(state: &mut [u8], nodes: u8, window: u16)
+fn age(state: &mut [u8], nodes: u8, window: u16)
     ensures { λ _. ⌜ now (state .exit) ≡ agedBytes nodes window (now (state .entry)) ⌝ }
 {
     age_nodes(state, nodes, window);
     next_tick(state);
 }
 
-// Whether an event is an answer that is undamaged, permits sleep and wakes nobody, in Normal.
-pub fn is_kept(state: &[u8], event: EventRecord) -> bool
-    ensures { λ r. ⌜ r ≡ isKept (now (state .entry)) event ⌝ }
+// Whether an answer is undamaged, permits sleep and wakes nobody, in Normal.
+fn is_kept(state: &[u8], answer: Answer) -> bool
+    ensures { λ r. ⌜ r ≡ isKept (now (state .entry)) answer ⌝ }
 {
     let normal = byte_at(state, STATE_AT) == 0;
-    let right = ((event.reqid as usize) < Row::REQIDS) & (event.count < Row::COUNTS);
-    let permits = (event.permission == 1) & (event.wake == 0);
-    (event.kind == 1) & normal & right & permits & (event.result == 0)
+    let right = ((answer.reqid as usize) < Row::REQIDS) & (answer.count < Row::COUNTS);
+    let permits = answer.permission & !answer.wake;
+    normal & right & permits & (answer.result == 0)
 }
 
 // A row, where a node publishes it and it accepts a length.
-pub fn accepting(row: Lookup, length: u16) -> Lookup
+fn accepting(row: Lookup, length: u16) -> Lookup
     ensures { λ r. ⌜ r ≡ accepting row length ⌝ }
 {
     match row {
@@ -136,6 +147,17 @@ pub fn accepting(row: Lookup, length: u16) -> Lookup
     }
 }
 
+// The row of an answer that is kept in the state's bytes.
+fn kept_row(plan: &[u8], state: &[u8], answer: Answer) -> Lookup
+    ensures { λ r. ⌜ r ≡ keptRow (recordOf (now (plan .entry))) (now (state .entry)) answer ⌝ }
+{
+    if is_kept(state, answer) {
+        accepting(plan_bytes::rising_row_of(plan, answer.reqid), answer.length)
+    } else {
+        Lookup::Missing
+    }
+}
+
 // Keeps the count of an answer, where its row has one.
 fn keep_count(state: &mut [u8], row: Row, count: u8) -> u8
     ensures { λ r. ⌜ (r ≡ lostBefore row count (now (state .entry))) × (now (state .exit) ≡ countKept row count (now (state .entry))) ⌝ }
@@ -150,7 +172,7 @@ fn keep_count(state: &mut [u8], row: Row, count: u8) -> u8
 }
 
 // A whole answer that permits sleep and wakes nobody; gives the answers lost before it.
-pub fn keep_answer(state: &mut [u8], row: Row, count: u8) -> u8
+fn keep_answer(state: &mut [u8], row: Row, count: u8) -> u8
     ensures { λ r. ⌜ (r ≡ lostBefore row count (now (state .entry))) × (now (state .exit) ≡ answerKept row count (now (state .entry))) ⌝ }
 {
     let lost = keep_count(state, row, count);
@@ -158,4 +180,43 @@ pub fn keep_answer(state: &mut [u8], row: Row, count: u8) -> u8
     put_hold(state, row.publisher, given);
     put_byte(state, CAUSES_AT + (row.publisher as usize), Master::NEW);
     lost
+}
+
+fn tick_in_place(plan: &[u8], state: &mut [u8]) -> Outcome
+    ensures { λ r. ⌜ (r ≡ outcome (recordOf (now (plan .entry))) (now (state .entry)) Event.Tick)
+        × (now (state .exit) ≡ leaves (recordOf (now (plan .entry))) (now (state .entry)) Event.Tick) ⌝ }
+{
+    if !is_quiet(state) {
+        return Outcome::Left;
+    }
+    let times = plan_bytes::times_of(plan);
+    age(state, plan_bytes::node_count(plan), times.window);
+    Outcome::Done(0)
+}
+
+fn answer_in_place(plan: &[u8], state: &mut [u8], answer: Answer) -> Outcome
+    ensures { λ r. ⌜ (r ≡ outcome (recordOf (now (plan .entry))) (now (state .entry)) (Event.Answer answer))
+        × (now (state .exit) ≡ leaves (recordOf (now (plan .entry))) (now (state .entry)) (Event.Answer answer)) ⌝ }
+{
+    let row = kept_row(plan, state, answer);
+    match row {
+        Lookup::Found(found) => Outcome::Done(keep_answer(state, found, answer.count)),
+        Lookup::Missing => Outcome::Left,
+    }
+}
+
+// A tick or an answer, where it is simple, in the bytes of a state under a plan; for both judged it is the machine's own.
+pub fn step_in_place(plan: &[u8], state: &mut [u8], event: Event) -> Outcome
+    ensures { λ r. ⌜ (r ≡ outcome (recordOf (now (plan .entry))) (now (state .entry)) event)
+        × (now (state .exit) ≡ leaves (recordOf (now (plan .entry))) (now (state .entry)) event) ⌝ }
+{
+    match event {
+        Event::Tick => tick_in_place(plan, state),
+        Event::Answer(answer) => answer_in_place(plan, state, answer),
+        Event::Pulse => Outcome::Left,
+        Event::WakeAsk => Outcome::Left,
+        Event::Permission(_) => Outcome::Left,
+        Event::SleepAsk => Outcome::Left,
+        Event::SendResult(_) => Outcome::Left,
+    }
 }

@@ -11,9 +11,6 @@ use Rattle.cxpi_batch.proofs.BatchStates.{machine-done}
 use Rattle.cxpi_batch.proofs.machine_step.Statement.{statement}
 use Rattle.cxpi_batch.proofs.machine_step.Tie as tie
 
-event-of-requires : tie.Need-event-of-requires
-event-of-requires c κs = search needs
-
 step-on-requires : tie.Need-step-on-requires
 step-on-requires c κs = search needs
 
@@ -30,14 +27,13 @@ returns : tie.Need-returns
 returns c =
     let called = c .before .before .before .before .before .before in
     let given = called .step-on in
-    machine-done _ _ _ (given .result) (c .command-number .result) _ (called .before .before .before .before .before .pre)
-    (rw (given .ensures, called .before .event-of .ensures)) (c .command-number .ensures) (let fields = LL.owed S.the-type S′.the-laws (given .result .master) _ (LL.owed Y.the-type Y′.the-laws (given .result) _ (given .ok) .0) in let a = fields .1 .1 .1 .0 .1 .0 .1 in let b = fields .1 .1 .1 .1 .0 .1 .0 .1 in let d = fields .1 .1 .1 .1 .1 .0 .1 .0 .1 in record { holds = sym (length-map (given .result .master .holds) _) ∙ a; causes = sym (length-map (given .result .master .causes) _) ∙ b; counts = sym (length-map (given .result .master .counts) _) ∙ d }) (c .before .before .before .put-master .ensures)
+    machine-done _ _ (called .before .before .before .before .args .event) (given .result) (c .command-number .result) _ (called .before .before .before .before .pre)
+    (given .ensures) (c .command-number .ensures) (let fields = LL.owed S.the-type S′.the-laws (given .result .master) _ (LL.owed Y.the-type Y′.the-laws (given .result) _ (given .ok) .0) in let a = fields .1 .1 .1 .0 .1 .0 .1 in let b = fields .1 .1 .1 .1 .0 .1 .0 .1 in let d = fields .1 .1 .1 .1 .1 .0 .1 .0 .1 in record { holds = sym (length-map (given .result .master .holds) _) ∙ a; causes = sym (length-map (given .result .master .causes) _) ∙ b; counts = sym (length-map (given .result .master .counts) _) ∙ d }) (c .before .before .before .put-master .ensures)
 
 pub machine-step-spec : {M : Type 1} → statement M
 machine-step-spec =
     tie.close
     (tie.spec
-    event-of-requires
     step-on-requires
     put-master-requires
     command-number-requires

@@ -9,7 +9,7 @@ cast-right : tie.Need-cast-right
 cast-right c = search needs
 
 returns : tie.Need-returns
-returns c = rw (c .before .before .before .before .before .before .byte-at .ensures)
+returns c = rw (c .before .before .before .before .before .byte-at .ensures)
 
 pub is-kept-spec : {M : Type 1} → statement M
 is-kept-spec = tie.close (tie.spec byte-at-requires cast-right returns)

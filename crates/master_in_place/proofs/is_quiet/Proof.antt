@@ -14,9 +14,9 @@ byte-at-requires-3 c κs = search needs
 returns : tie.Need-returns
 returns c =
     rw (
-      c .before .byte-at3 .ensures,
-      c .before .before .byte-at2 .ensures,
-      c .before .before .before .byte-at .ensures,
+      c .byte-at3 .ensures,
+      c .before .byte-at2 .ensures,
+      c .before .before .byte-at .ensures,
     )
 
 pub is-quiet-spec : {M : Type 1} → statement M

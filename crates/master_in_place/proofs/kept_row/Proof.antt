@@ -1,6 +1,6 @@
 use borrow.Author.Needs.{needs}
-use Rattle.cxpi_batch.proofs.kept_row.Statement.{statement}
-use Rattle.cxpi_batch.proofs.kept_row.Tie as tie
+use Rattle.master_in_place.proofs.kept_row.Statement.{statement}
+use Rattle.master_in_place.proofs.kept_row.Tie as tie
 
 is-kept-requires : tie.Need-is-kept-requires
 is-kept-requires c κs = search needs
