@@ -193,14 +193,7 @@ impl Master {
     }
 
     // What an event does once plan, state and event are judged.
-    fn act_with(
-        self,
-        sleeps: bool,
-        nodecount: u8,
-        times: Times,
-        row: Lookup,
-        event: Event,
-    ) -> Reply
+    fn act_with(self, sleeps: bool, nodecount: u8, times: Times, row: Lookup, event: Event) -> Reply
         ensures { λ r. ⌜ r ≡ actWith sleeps nodecount times row self event ⌝ }
     {
         match event {

@@ -205,7 +205,7 @@ fn answer_in_place(plan: &[u8], state: &mut [u8], answer: Answer) -> Outcome
     }
 }
 
-// A tick or an answer, where it is simple, in the bytes of a state under a plan; for both judged it is the machine's own.
+// Does a tick or a whole answer in the bytes of a state, where that is simple. Where plan and state are judged it is the machine's step.
 pub fn step_in_place(plan: &[u8], state: &mut [u8], event: Event) -> Outcome
     ensures { λ r. ⌜ (r ≡ outcome (recordOf (now (plan .entry))) (now (state .entry)) event)
         × (now (state .exit) ≡ leaves (recordOf (now (plan .entry))) (now (state .entry)) event) ⌝ }

@@ -14,17 +14,17 @@ refuse-requires c κs = search needs
 returns : tie.Need-returns
 returns c =
     rw (
-        c .step-in-range .ensures,
-        ← c .before .before .in-range .ensures,
-        c .before .if1 .taken,
+      c .step-in-range .ensures,
+      ← c .before .before .in-range .ensures,
+      c .before .if1 .taken,
     )
 
 returns-2 : tie.Need-returns-2
 returns-2 c =
     rw (
-        c .refuse .ensures,
-        ← c .before .before .in-range .ensures,
-        c .before .if1 .left,
+      c .refuse .ensures,
+      ← c .before .before .in-range .ensures,
+      c .before .if1 .left,
     )
 
 pub step-with-spec : {M : Type 1} → statement M
