@@ -1,11 +1,18 @@
 # rt proves and builds what has changed; rt ci starts from nothing and gives the verdict.
-.PHONY: run why show replay test bench lib firmware cases
+.PHONY: run picture why show replay test bench lib firmware cases
 
 # Document 01's drill: its twelve moves on set T.
 run:
 	@mkdir -p target
 	@rt check drill > target/run.log 2>&1 || { cat target/run.log; exit 1; }
 	@cd examples/set-t && ../../target/bin/drill < moves
+
+# The same as a picture: target/drill.svg (needs python3).
+picture:
+	@mkdir -p target
+	@$(MAKE) -s run > target/drill.lines || { cat target/drill.lines; exit 1; }
+	@python3 tools/picture.py --moves examples/set-t/moves < target/drill.lines > target/drill.svg
+	@echo target/drill.svg
 
 # Document 01's drill up to the sleep ask that is refused, and why the panel is awake.
 why:
@@ -46,7 +53,7 @@ firmware:
 	@sh firmware/archives.sh
 
 # Makes the test sets, the machines' cases, the lists of events, the requests to a node, the lists of moves, the recorded moves, the drill's
-# scripts, the cases of why and what must be printed of them anew, from documents 01 and 02 (needs python3).
+# scripts, the cases of why and what must be printed of them, and the drill's picture anew, from documents 01 and 02 (needs python3).
 cases:
 	python3 tests/sets/make.py
 	python3 tests/machines/make.py
@@ -56,3 +63,4 @@ cases:
 	python3 tests/replay/make.py
 	python3 tests/drills/make.py
 	python3 tests/why/make.py
+	python3 tools/picture.py --moves examples/set-t/moves < crates/drill/stdout > tests/picture/drill.svg

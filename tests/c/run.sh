@@ -1,7 +1,7 @@
 #!/bin/sh
 # Holds docs/TRACE.md to the repository; builds the archive and runs the C tests against it: each export under sanitizers, the comparisons
 # with the independent implementation, the headers and the symbols, the firmware and the station example; the drill, the explanation and the
-# replay of recorded moves against independent ones; and the archives for controllers. By gcc, and by clang where it is present.
+# replay of recorded moves against independent ones; the drill's picture; and the archives for controllers. By gcc, and by clang where it is present.
 set -eu
 cd "$(dirname "$0")/../.."
 out=target/c
@@ -55,7 +55,10 @@ $out/compare
 # The independent drill, by document 01's moves.
 sh $independent/check_drill.sh
 
-# The drill against it: long lists, plain and with odd lines, over both profiles.
+# Its lines as a picture.
+python3 tests/picture/check.py
+
+# The drill against the independent one: long lists, plain and with odd lines, over both profiles.
 gcc $flags -O2 $independent/make_set.c $independent/big_plan.c $independent/reference.c -o $out/make_set
 gcc $flags -O2 $independent/drill.c $independent/reference.c -o $out/reference_drill
 python3 $independent/compare_drills.py crates/drills $out/reference_drill
