@@ -52,13 +52,7 @@ impl World {
         }
     }
 
-    pub(crate) fn node_permission(
-        self,
-        sleeps: bool,
-        count: u8,
-        node: u8,
-        permitted: bool,
-    ) -> Moved
+    pub(crate) fn node_permission(self, sleeps: bool, count: u8, node: u8, permitted: bool) -> Moved
         requires { ⌜ count ≤ maxNodes ⌝ }
         ensures { λ r. ⌜ r ≡ nodePermission sleeps count node permitted self ⌝ }
     {

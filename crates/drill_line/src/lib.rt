@@ -219,8 +219,16 @@ fn permit_who(who: Who, permitted: bool) -> Line
     ensures { λ r. ⌜ r ≡ permitWho who permitted ⌝ }
 {
     match who {
-        Who::Node(node) => Line::Move(Act::NodePermission { node, permitted }, true, Fate::Whole(OWN_LENGTH)),
-        Who::Master => Line::Move(Act::MasterPermission(permitted), true, Fate::Whole(OWN_LENGTH)),
+        Who::Node(node) => Line::Move(
+            Act::NodePermission { node, permitted },
+            true,
+            Fate::Whole(OWN_LENGTH),
+        ),
+        Who::Master => Line::Move(
+            Act::MasterPermission(permitted),
+            true,
+            Fate::Whole(OWN_LENGTH),
+        ),
         Who::Nobody => Line::Bad,
     }
 }

@@ -20,10 +20,10 @@ enum-told-4 c = search needs
 returns : tie.Need-returns
 returns c =
     rw (
-        c .node-reason .ensures,
-        c .before .before .before .before .if1 .taken,
-        c .before .before .enum-told .given .1,
-        c .before .if2 .taken,
+      c .node-reason .ensures,
+      c .before .before .before .before .if1 .taken,
+      c .before .before .enum-told .given .1,
+      c .before .if2 .taken,
     )
 
 returns-2 : tie.Need-returns-2

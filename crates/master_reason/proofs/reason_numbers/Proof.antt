@@ -38,8 +38,8 @@ returns-4 c = search needs
 returns-5 : tie.Need-returns-5
 returns-5 c =
     rw (
-        c .cause-number .ensures,
-        c .before .before .reason .given .1,
+      c .cause-number .ensures,
+      c .before .before .reason .given .1,
     )
 
 returns-6 : tie.Need-returns-6

@@ -32,16 +32,16 @@ returns-2 c = search needs
 returns-3 : tie.Need-returns-3
 returns-3 c =
     rw (
-        c .sent-length .ensures,
-        c .before .before .before .before .before .command .given .1,
-        c .before .before .fate .given .1,
+      c .sent-length .ensures,
+      c .before .before .before .before .before .command .given .1,
+      c .before .before .fate .given .1,
     )
 
 returns-4 : tie.Need-returns-4
 returns-4 c =
     rw (
-        c .before .before .before .before .command .given .1,
-        c .before .fate2 .given .1,
+      c .before .before .before .before .command .given .1,
+      c .before .fate2 .given .1,
     )
 
 returns-5 : tie.Need-returns-5

@@ -11,15 +11,15 @@ is-variable-requires c κs = search needs
 returns : tie.Need-returns
 returns c =
     rw (
-        ← c .before .is-variable .ensures,
-        c .if1 .taken,
+      ← c .before .is-variable .ensures,
+      c .if1 .taken,
     )
 
 returns-2 : tie.Need-returns-2
 returns-2 c =
     rw (
-        ← c .before .is-variable .ensures,
-        c .if1 .left,
+      ← c .before .is-variable .ensures,
+      c .if1 .left,
     )
 
 pub sent-length-spec : {M : Type 1} → statement M

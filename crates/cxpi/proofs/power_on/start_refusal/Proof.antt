@@ -9,24 +9,24 @@ refusal-of-requires c κs = search needs
 returns : tie.Need-returns
 returns c =
     rw (
-        ← c .before .refusal-of .ensures,
-        ne-eqb _ _ (c .if1 .taken),
+      ← c .before .refusal-of .ensures,
+      ne-eqb _ _ (c .if1 .taken),
     )
 
 returns-2 : tie.Need-returns-2
 returns-2 c =
     rw (
-        ← c .before .before .refusal-of .ensures,
-        eq-eqb _ _ (c .before .if1 .left),
-        lt-ltb _ _ (c .if2 .taken),
+      ← c .before .before .refusal-of .ensures,
+      eq-eqb _ _ (c .before .if1 .left),
+      lt-ltb _ _ (c .if2 .taken),
     )
 
 returns-3 : tie.Need-returns-3
 returns-3 c =
     rw (
-        ← c .before .before .refusal-of .ensures,
-        eq-eqb _ _ (c .before .if1 .left),
-        le-ltb _ _ (c .if2 .left),
+      ← c .before .before .refusal-of .ensures,
+      eq-eqb _ _ (c .before .if1 .left),
+      le-ltb _ _ (c .if2 .left),
     )
 
 pub start-refusal-spec : {M : Type 1} → statement M

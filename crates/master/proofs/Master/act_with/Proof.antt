@@ -47,50 +47,50 @@ send-result-requires c κs = search needs
 returns : tie.Need-returns
 returns c =
     rw (
-        c .tick .ensures,
-        c .before .enum-told .given .1,
+      c .tick .ensures,
+      c .before .enum-told .given .1,
     )
 
 returns-2 : tie.Need-returns-2
 returns-2 c =
     rw (
-        c .answer .ensures,
-        c .before .before .event .given .1,
+      c .answer .ensures,
+      c .before .before .event .given .1,
     )
 
 returns-3 : tie.Need-returns-3
 returns-3 c =
     rw (
-        c .wake-up .ensures,
-        c .before .enum-told2 .given .1,
+      c .wake-up .ensures,
+      c .before .enum-told2 .given .1,
     )
 
 returns-4 : tie.Need-returns-4
 returns-4 c =
     rw (
-        c .wake-up2 .ensures,
-        c .before .enum-told3 .given .1,
+      c .wake-up2 .ensures,
+      c .before .enum-told3 .given .1,
     )
 
 returns-5 : tie.Need-returns-5
 returns-5 c =
     rw (
-        c .permit .ensures,
-        c .before .before .event2 .given .1,
+      c .permit .ensures,
+      c .before .before .event2 .given .1,
     )
 
 returns-6 : tie.Need-returns-6
 returns-6 c =
     rw (
-        c .sleep-ask .ensures,
-        c .before .enum-told4 .given .1,
+      c .sleep-ask .ensures,
+      c .before .enum-told4 .given .1,
     )
 
 returns-7 : tie.Need-returns-7
 returns-7 c =
     rw (
-        c .send-result .ensures,
-        c .before .before .event3 .given .1,
+      c .send-result .ensures,
+      c .before .before .event3 .given .1,
     )
 
 pub act-with-spec : {M : Type 1} → statement M

@@ -47,59 +47,59 @@ refuse-requires-6 c κs = search needs
 returns : tie.Need-returns
 returns c =
     rw (
-        c .open-ask .ensures,
-        c .before .before .before .before .enum-told .given .1,
-        c .before .before .before .if1 .taken,
-        c .before .enum-told2 .given .1,
+      c .open-ask .ensures,
+      c .before .before .before .before .enum-told .given .1,
+      c .before .before .before .if1 .taken,
+      c .before .enum-told2 .given .1,
     )
 
 returns-2 : tie.Need-returns-2
 returns-2 c =
     rw (
-        c .refuse .ensures,
-        c .before .before .before .before .enum-told .given .1,
-        c .before .before .before .if1 .taken,
-        c .before .enum-told3 .given .1,
+      c .refuse .ensures,
+      c .before .before .before .before .enum-told .given .1,
+      c .before .before .before .if1 .taken,
+      c .before .enum-told3 .given .1,
     )
 
 returns-3 : tie.Need-returns-3
 returns-3 c =
     rw (
-        c .refuse2 .ensures,
-        c .before .before .before .before .enum-told .given .1,
-        c .before .before .before .if1 .taken,
-        c .before .enum-told4 .given .1,
+      c .refuse2 .ensures,
+      c .before .before .before .before .enum-told .given .1,
+      c .before .before .before .if1 .taken,
+      c .before .enum-told4 .given .1,
     )
 
 returns-4 : tie.Need-returns-4
 returns-4 c =
     rw (
-        c .refuse3 .ensures,
-        c .before .before .before .before .enum-told .given .1,
-        c .before .before .before .if1 .taken,
-        c .before .enum-told5 .given .1,
+      c .refuse3 .ensures,
+      c .before .before .before .before .enum-told .given .1,
+      c .before .before .before .if1 .taken,
+      c .before .enum-told5 .given .1,
     )
 
 returns-5 : tie.Need-returns-5
 returns-5 c =
     rw (
-        c .refuse4 .ensures,
-        c .before .before .enum-told .given .1,
-        c .before .if1 .left,
+      c .refuse4 .ensures,
+      c .before .before .enum-told .given .1,
+      c .before .if1 .left,
     )
 
 returns-6 : tie.Need-returns-6
 returns-6 c =
     rw (
-        c .refuse5 .ensures,
-        c .before .enum-told6 .given .1,
+      c .refuse5 .ensures,
+      c .before .enum-told6 .given .1,
     )
 
 returns-7 : tie.Need-returns-7
 returns-7 c =
     rw (
-        c .refuse6 .ensures,
-        c .before .enum-told7 .given .1,
+      c .refuse6 .ensures,
+      c .before .enum-told7 .given .1,
     )
 
 pub sleep-ask-spec : {M : Type 1} → statement M

@@ -14,9 +14,9 @@ step-with-requires c κs = search needs
 returns : tie.Need-returns
 returns c =
     rw (
-        c .step-with .ensures,
-        c .before .sleeps .ensures,
-        c .before .before .row-asked .ensures,
+      c .step-with .ensures,
+      c .before .sleeps .ensures,
+      c .before .before .row-asked .ensures,
     )
 
 pub step-under-spec : {M : Type 1} → statement M

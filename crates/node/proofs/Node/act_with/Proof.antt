@@ -47,50 +47,50 @@ send-ask-requires c κs = search needs
 returns : tie.Need-returns
 returns c =
     rw (
-        c .tick .ensures,
-        c .before .before .event .given .1,
+      c .tick .ensures,
+      c .before .before .event .given .1,
     )
 
 returns-2 : tie.Need-returns-2
 returns-2 c =
     rw (
-        c .pulse .ensures,
-        c .before .enum-told .given .1,
+      c .pulse .ensures,
+      c .before .enum-told .given .1,
     )
 
 returns-3 : tie.Need-returns-3
 returns-3 c =
     rw (
-        c .wake-ask .ensures,
-        c .before .enum-told2 .given .1,
+      c .wake-ask .ensures,
+      c .before .enum-told2 .given .1,
     )
 
 returns-4 : tie.Need-returns-4
 returns-4 c =
     rw (
-        c .permit .ensures,
-        c .before .before .event2 .given .1,
+      c .permit .ensures,
+      c .before .before .event2 .given .1,
     )
 
 returns-5 : tie.Need-returns-5
 returns-5 c =
     rw (
-        c .sleep-message .ensures,
-        c .before .enum-told3 .given .1,
+      c .sleep-message .ensures,
+      c .before .enum-told3 .given .1,
     )
 
 returns-6 : tie.Need-returns-6
 returns-6 c =
     rw (
-        c .request .ensures,
-        c .before .enum-told4 .given .1,
+      c .request .ensures,
+      c .before .enum-told4 .given .1,
     )
 
 returns-7 : tie.Need-returns-7
 returns-7 c =
     rw (
-        c .send-ask .ensures,
-        c .before .enum-told5 .given .1,
+      c .send-ask .ensures,
+      c .before .enum-told5 .given .1,
     )
 
 pub act-with-spec : {M : Type 1} → statement M

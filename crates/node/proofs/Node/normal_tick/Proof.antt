@@ -36,25 +36,25 @@ silent-requires c κs = search needs
 returns : tie.Need-returns
 returns c =
     rw (
-        c .awake-tick .ensures,
-        c .before .enum-told .given .1,
+      c .awake-tick .ensures,
+      c .before .enum-told .given .1,
     )
 
 returns-2 : tie.Need-returns-2
 returns-2 c =
     rw (
-        c .awake-tick2 .ensures,
-        c .before .before .before .before .before .delay .given .1,
-        lt-ltb _ _ (c .before .before .if1 .taken),
+      c .awake-tick2 .ensures,
+      c .before .before .before .before .before .delay .given .1,
+      lt-ltb _ _ (c .before .before .if1 .taken),
     )
 
 returns-3 : tie.Need-returns-3
 returns-3 c =
     rw (
-        c .silent .ensures,
-        c .before .to-sleep .ensures,
-        c .before .before .before .before .before .delay .given .1,
-        le-ltb _ _ (c .before .before .if1 .left),
+      c .silent .ensures,
+      c .before .to-sleep .ensures,
+      c .before .before .before .before .before .delay .given .1,
+      le-ltb _ _ (c .before .before .if1 .left),
     )
 
 pub normal-tick-spec : {M : Type 1} → statement M

@@ -17,25 +17,25 @@ silent-requires-3 c κs = search needs
 returns : tie.Need-returns
 returns c =
     rw (
-        c .silent .ensures,
-        c .before .to-sleep .ensures,
-        c .before .before .before .before .if1 .taken,
-        c .before .before .if2 .taken,
+      c .silent .ensures,
+      c .before .to-sleep .ensures,
+      c .before .before .before .before .if1 .taken,
+      c .before .before .if2 .taken,
     )
 
 returns-2 : tie.Need-returns-2
 returns-2 c =
     rw (
-        c .silent2 .ensures,
-        c .before .before .before .if1 .taken,
-        c .before .if2 .left,
+      c .silent2 .ensures,
+      c .before .before .before .if1 .taken,
+      c .before .if2 .left,
     )
 
 returns-3 : tie.Need-returns-3
 returns-3 c =
     rw (
-        c .silent3 .ensures,
-        c .before .if1 .left,
+      c .silent3 .ensures,
+      c .before .if1 .left,
     )
 
 pub permit-spec : {M : Type 1} → statement M

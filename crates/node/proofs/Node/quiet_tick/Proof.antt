@@ -27,25 +27,25 @@ silent-requires-3 c κs = search needs
 returns : tie.Need-returns
 returns c =
     rw (
-        c .silent .ensures,
-        lt-ltb _ _ (c .before .if1 .taken),
+      c .silent .ensures,
+      lt-ltb _ _ (c .before .if1 .taken),
     )
 
 returns-2 : tie.Need-returns-2
 returns-2 c =
     rw (
-        c .silent2 .ensures,
-        c .before .to-sleep .ensures,
-        le-ltb _ _ (c .before .before .before .before .if1 .left),
-        c .before .before .if2 .taken,
+      c .silent2 .ensures,
+      c .before .to-sleep .ensures,
+      le-ltb _ _ (c .before .before .before .before .if1 .left),
+      c .before .before .if2 .taken,
     )
 
 returns-3 : tie.Need-returns-3
 returns-3 c =
     rw (
-        c .silent3 .ensures,
-        le-ltb _ _ (c .before .before .before .if1 .left),
-        c .before .if2 .left,
+      c .silent3 .ensures,
+      le-ltb _ _ (c .before .before .before .if1 .left),
+      c .before .if2 .left,
     )
 
 pub quiet-tick-spec : {M : Type 1} → statement M

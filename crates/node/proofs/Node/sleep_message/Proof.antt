@@ -26,31 +26,31 @@ refuse-requires-3 c κs = search needs
 returns : tie.Need-returns
 returns c =
     rw (
-        c .silent .ensures,
-        c .before .before .before .enum-told .given .1,
-        c .before .before .if1 .taken,
+      c .silent .ensures,
+      c .before .before .before .enum-told .given .1,
+      c .before .before .if1 .taken,
     )
 
 returns-2 : tie.Need-returns-2
 returns-2 c =
     rw (
-        c .refuse .ensures,
-        c .before .before .enum-told .given .1,
-        c .before .if1 .left,
+      c .refuse .ensures,
+      c .before .before .enum-told .given .1,
+      c .before .if1 .left,
     )
 
 returns-3 : tie.Need-returns-3
 returns-3 c =
     rw (
-        c .refuse2 .ensures,
-        c .before .enum-told2 .given .1,
+      c .refuse2 .ensures,
+      c .before .enum-told2 .given .1,
     )
 
 returns-4 : tie.Need-returns-4
 returns-4 c =
     rw (
-        c .refuse3 .ensures,
-        c .before .enum-told3 .given .1,
+      c .refuse3 .ensures,
+      c .before .enum-told3 .given .1,
     )
 
 pub sleep-message-spec : {M : Type 1} → statement M

@@ -17,10 +17,10 @@ step-with-requires c κs = search needs
 returns : tie.Need-returns
 returns c =
     rw (
-        c .step-with .ensures,
-        c .before .sleeps .ensures,
-        c .before .before .is-polled .ensures,
-        c .before .before .before .row-asked .ensures,
+      c .step-with .ensures,
+      c .before .sleeps .ensures,
+      c .before .before .is-polled .ensures,
+      c .before .before .before .row-asked .ensures,
     )
 
 pub step-under-spec : {M : Type 1} → statement M

@@ -24,39 +24,39 @@ refuse-requires-3 c κs = search needs
 returns : tie.Need-returns
 returns c =
     rw (
-        c .act-with .ensures,
-        ← c .before .before .is-right .ensures,
-        ← c .before .before .before .before .in-range .ensures,
-        lt-ltb _ _ (c .before .before .before .before .before .if1 .taken),
-        c .before .before .before .if2 .taken,
-        c .before .if3 .taken,
+      c .act-with .ensures,
+      ← c .before .before .is-right .ensures,
+      ← c .before .before .before .before .in-range .ensures,
+      lt-ltb _ _ (c .before .before .before .before .before .if1 .taken),
+      c .before .before .before .if2 .taken,
+      c .before .if3 .taken,
     )
 
 returns-2 : tie.Need-returns-2
 returns-2 c =
     rw (
-        c .refuse .ensures,
-        ← c .before .before .is-right .ensures,
-        ← c .before .before .before .before .in-range .ensures,
-        lt-ltb _ _ (c .before .before .before .before .before .if1 .taken),
-        c .before .before .before .if2 .taken,
-        c .before .if3 .left,
+      c .refuse .ensures,
+      ← c .before .before .is-right .ensures,
+      ← c .before .before .before .before .in-range .ensures,
+      lt-ltb _ _ (c .before .before .before .before .before .if1 .taken),
+      c .before .before .before .if2 .taken,
+      c .before .if3 .left,
     )
 
 returns-3 : tie.Need-returns-3
 returns-3 c =
     rw (
-        c .refuse2 .ensures,
-        ← c .before .before .in-range .ensures,
-        lt-ltb _ _ (c .before .before .before .if1 .taken),
-        c .before .if2 .left,
+      c .refuse2 .ensures,
+      ← c .before .before .in-range .ensures,
+      lt-ltb _ _ (c .before .before .before .if1 .taken),
+      c .before .if2 .left,
     )
 
 returns-4 : tie.Need-returns-4
 returns-4 c =
     rw (
-        c .refuse3 .ensures,
-        le-ltb _ _ (c .before .if1 .left),
+      c .refuse3 .ensures,
+      le-ltb _ _ (c .before .if1 .left),
     )
 
 pub step-with-spec : {M : Type 1} → statement M

@@ -38,43 +38,43 @@ silent-requires-2 c κs = search needs
 returns : tie.Need-returns
 returns c =
     rw (
-        c .calls .ensures,
-        c .before .to-standby .ensures,
-        c .before .before .enum-told .given .1,
+      c .calls .ensures,
+      c .before .to-standby .ensures,
+      c .before .before .enum-told .given .1,
     )
 
 returns-2 : tie.Need-returns-2
 returns-2 c =
     rw (
-        c .silent .ensures,
-        c .before .before .enum-told2 .given .1,
-        c .before .if1 .taken,
+      c .silent .ensures,
+      c .before .before .enum-told2 .given .1,
+      c .before .if1 .taken,
     )
 
 returns-3 : tie.Need-returns-3
 returns-3 c =
     rw (
-        c .calls2 .ensures,
-        c .before .to-standby2 .ensures,
-        c .before .before .before .enum-told2 .given .1,
-        c .before .before .if1 .left,
+      c .calls2 .ensures,
+      c .before .to-standby2 .ensures,
+      c .before .before .before .enum-told2 .given .1,
+      c .before .before .if1 .left,
     )
 
 returns-4 : tie.Need-returns-4
 returns-4 c =
     rw (
-        c .calls3 .ensures,
-        c .before .to-standby3 .ensures,
-        c .before .before .before .before .enum-told3 .given .1,
-        c .before .before .before .if2 .taken,
+      c .calls3 .ensures,
+      c .before .to-standby3 .ensures,
+      c .before .before .before .before .enum-told3 .given .1,
+      c .before .before .before .if2 .taken,
     )
 
 returns-5 : tie.Need-returns-5
 returns-5 c =
     rw (
-        c .silent2 .ensures,
-        c .before .before .enum-told3 .given .1,
-        c .before .if2 .left,
+      c .silent2 .ensures,
+      c .before .before .enum-told3 .given .1,
+      c .before .if2 .left,
     )
 
 pub wake-ask-spec : {M : Type 1} → statement M

@@ -14,15 +14,15 @@ cast-result-2 c = search needs
 returns : tie.Need-returns
 returns c =
     rw (
-        ← c .before .before .is-variable .ensures,
-        c .before .if1 .taken,
+      ← c .before .before .is-variable .ensures,
+      c .before .if1 .taken,
     )
 
 returns-2 : tie.Need-returns-2
 returns-2 c =
     rw (
-        ← c .before .before .is-variable .ensures,
-        c .before .if1 .left,
+      ← c .before .before .is-variable .ensures,
+      c .before .if1 .left,
     )
 
 pub accepts-spec : {M : Type 1} → statement M
