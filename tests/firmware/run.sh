@@ -48,10 +48,9 @@ python3 tests/firmware/stack_test.py
 sh firmware/archives.sh > $out/made
 most=0
 for made in $(cut -d / -f 3 $out/made); do
-    grep -q '^verdict  *cxpi: logic=proved ' $out/"$made"/origin.txt
-    grep -q '^verdict  *cxpi_batch: logic=proved ' $out/"$made"/origin.txt
     (cd $out/"$made" && grep -E '^[0-9a-f]{64} ' origin.txt | sha256sum --check --strict --quiet)
     for crate in $crates; do
+        grep -q "^verdict  *$crate: logic=proved " $out/"$made"/origin.txt
         python3 firmware/stack.py $out/work/"$made"/$crate $stack_bound > $out/log
         most=$(awk -v most="$most" '/^cxpi_/ && $2 > most { most = $2 } END { print most }' $out/log)
     done

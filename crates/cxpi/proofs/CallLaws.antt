@@ -1,10 +1,10 @@
 -- What the calls come to for a host: bytes that are no state or no event are refused, a refused step commands nothing, and a set read and
 -- written back is the same.
 use Prim.Native.Nat.{ℕ, _<_}
-use mathlib.Core.Path.{_≡_, refl, ap, sym, _∙_}
+use mathlib.Core.Path.{_≡_, refl, ap, _∙_}
 use mathlib.Core.Bool.{Bool, true, false, _&&_}
 use mathlib.Core.List.{List}
-use lib.ListN.{length, replicate}
+use lib.ListN.{replicate}
 use lib.Dec.{eqb, leb, ltb}
 use borrow.Author.Tests.{eqb-true}
 use Rattle.folds.proofs.Choices.{by-test}
@@ -12,7 +12,7 @@ use Rattle.blocks.specs.Bytes.{byte}
 use Rattle.machine.specs.Counts.{countsBelow}
 use Rattle.plan.specs.declared.Times.{Times}
 use Rattle.plan.specs.declared.Plan.{Plan}
-use Rattle.plan.specs.Record.{zeroPlan, unusedZero}
+use Rattle.plan.specs.Record.{unusedZero}
 use Rattle.plan.specs.Profile.{sleeps}
 use Rattle.plan.specs.Rules.{planRefusal}
 use Rattle.plan_bytes.specs.Record.{recordOf, recordBytes}
@@ -22,9 +22,7 @@ use Rattle.reader.specs.Read.{setRefusal, readSet}
 use Rattle.reader.proofs.Answers.{read-record-back}
 use Rattle.writer.specs.Write.{writeSet}
 use Rattle.writer.proofs.RoundTrip.{read-of-written, written-of-read}
-use Rattle.master.specs.declared.Command.{Command}
 use Rattle.master.specs.declared.Reply.{Reply}
-use Rattle.master.specs.Changes.{powerOn}
 use Rattle.master.specs.Range as MasterRange
 use Rattle.master.specs.Step as MasterStep
 use Rattle.master.proofs.Refusals as MasterRefusals

@@ -1,9 +1,6 @@
 // The C host's call that tells why a master is awake, an archive's member of its own as `cxpi_batch` is.
 ghost use mathlib.Core.Path.{_≡_};
 ghost use lib.ListN.{length};
-ghost use lib.Seq.{sets};
-ghost use Rattle.folds.specs.Fold.{pick};
-ghost use Rattle.master_reason.specs.Numbers.{reasonNumbers};
 ghost use Rattle.cxpi_why.specs.ReasonCalls.{reasonReply, reasonLeaves};
 use blocks::put;
 use master_bytes::master_of;

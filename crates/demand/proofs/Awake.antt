@@ -1,5 +1,5 @@
 -- W-206: in a run of machines that never sleep every machine stays awake, no node shows an error and no tick stops the clock.
-use Prim.Native.Nat.{ℕ, _≤_, _<_}
+use Prim.Native.Nat.{ℕ, _<_}
 use mathlib.Core.Path.{_≡_, refl, sym, ap, subst, _∙_}
 use mathlib.Core.Bool.{Bool, true, false, not, _&&_}
 use mathlib.Core.List.{List, [], _∷_}
@@ -9,7 +9,6 @@ use native.Mathlib.Omega.{arith}
 use borrow.Author.Tests.{ltb-true}
 use Rattle.folds.proofs.AllAny.{and-l}
 use Rattle.folds.proofs.Choices.{by-test, no-way}
-use Rattle.machine.specs.declared.State.{State}
 use Rattle.machine.specs.State.{isNormal}
 use Rattle.plan.specs.declared.Lookup.{Lookup}
 use Rattle.plan.specs.declared.Plan.{Plan}
@@ -30,7 +29,6 @@ use Rattle.master.specs.declared.Master.{Master}
 use Rattle.master.specs.Clock.{clockOn, isOff}
 use Rattle.master.specs.Sleeping.{sleepAskStep, sendResultStep}
 use Rattle.master.specs.Ticks as MasterTicks
-use Rattle.master.specs.Waking.{wakeUpStep, permissionStep}
 use Rattle.master.proofs.Awake as MasterAwake
 use Rattle.bus.specs.declared.Act.{Act}
 use Rattle.bus.specs.declared.Arrival.{Arrival}
@@ -41,7 +39,6 @@ use Rattle.bus.specs.declared.Fate.{Fate}
 use Rattle.bus.specs.declared.Message.{Message}
 use Rattle.bus.specs.declared.Move.{Move}
 use Rattle.bus.specs.declared.Moved.{Moved}
-use Rattle.bus.specs.declared.Passed.{Passed}
 use Rattle.bus.specs.declared.World.{World}
 use Rattle.bus.specs.Messages.{messageRefusal, judgedMessage, carried, arrive, deliver, deliveredIn, publishFound, sendAskBy, sendingBy, sleepAskMove, resultAfter}
 use Rattle.bus.specs.Moves.{actBy, worldAct}

@@ -1,7 +1,7 @@
 -- What demand 3 and the reasons say of a panel that never sleeps (W-206), on computed lists, beside what the same lists show of one that does.
-use mathlib.Core.Path.{_≡_, refl, sym, ap, _∙_}
+use mathlib.Core.Path.{_≡_, refl, ap}
 use mathlib.Core.Bool.{true, false}
-use mathlib.Core.List.{List, [], _∷_, _++_}
+use mathlib.Core.List.{List, [], _++_}
 use native.Mathlib.Omega.{arith}
 use Rattle.folds.specs.Fold.{anyTo, firstTo, tab}
 use Rattle.folds.proofs.Choices.{no-way}
@@ -19,9 +19,9 @@ use Rattle.bus.specs.declared.Act.{Act}
 use Rattle.bus.specs.declared.Move.{Move}
 use Rattle.bus.specs.Moves.{worldAct}
 use Rattle.bus.specs.World.{nodeAt}
-use Rattle.history.specs.Examples.{plan, neverPlan, lossless, does, ticks, permitting, answering, asking, stopping}
+use Rattle.history.specs.Examples.{plan, neverPlan, lossless, does, ticks, permitting, answering, stopping}
 use Rattle.history.specs.Run.{run}
-use Rattle.history.specs.Words.{none, isSending, isStop}
+use Rattle.history.specs.Words.{none, isStop}
 use Rattle.demand.specs.Demand3.{StaysAwake}
 use Rattle.demand.specs.Reasons.{shown}
 use Rattle.demand.proofs.ExamplePlans.{never-accepted}

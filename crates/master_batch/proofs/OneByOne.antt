@@ -21,7 +21,7 @@ use Rattle.master_events.specs.declared.ReplyRecord.{ReplyRecord}
 use Rattle.master_events.specs.Events.{eventOf}
 use Rattle.master_events.specs.Replies.{replyRecord}
 use Rattle.master_batch.specs.declared.Batch.{Batch}
-use Rattle.master_batch.specs.Batch.{stepped, masterAfter, repliesTo, tooShort, batchOf, batchReplies}
+use Rattle.master_batch.specs.Batch.{stepped, masterAfter, repliesTo, batchOf, batchReplies}
 
 abbrev done : Master → Batch
 done m = record { refusal = 0; master = m }

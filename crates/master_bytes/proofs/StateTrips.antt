@@ -17,7 +17,6 @@ use Rattle.folds.proofs.Tables.{tab-of, getD-tab, length-tab, tab-ext}
 use Rattle.blocks.specs.Bytes.{byte, highByte, lowByte, tableAt}
 use Rattle.blocks.proofs.Halves.{from-halves, high-at, low-at, long-high-at, long-low-at, from-quarters}
 use Rattle.blocks.proofs.Parts.{head-and-rest}
-use Rattle.machine.specs.declared.State.{State}
 use Rattle.machine.specs.State.{startState}
 use Rattle.machine.specs.Bytes.{stateByte, stateOf, flagOf}
 use Rattle.plan.specs.declared.Times.{Times}

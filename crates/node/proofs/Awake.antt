@@ -2,7 +2,6 @@
 use Prim.Native.Nat.{ℕ, _+_}
 use mathlib.Core.Path.{_≡_, refl, sym, subst}
 use mathlib.Core.Bool.{Bool, true, false}
-use mathlib.Core.List.{List}
 use lib.Dec.{ltb, eqb}
 use Rattle.folds.proofs.Choices.{by-test, no-way}
 use Rattle.machine.specs.declared.State.{State}
@@ -17,7 +16,6 @@ use Rattle.node.specs.declared.Delay.{Delay}
 use Rattle.node.specs.declared.Node.{Node}
 use Rattle.node.specs.declared.Event.{Event}
 use Rattle.node.specs.declared.Reply.{Reply}
-use Rattle.node.specs.Changes.{powerOn}
 use Rattle.node.specs.Range.{isAwake, inRange}
 use Rattle.node.specs.Ticks.{tickStep}
 use Rattle.node.specs.Waking.{pulseStep, wakeAskStep, permissionStep}

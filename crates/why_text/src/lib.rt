@@ -1,5 +1,4 @@
 // The line that tells why a master is awake.
-ghost use mathlib.Core.Path.{_≡_};
 ghost use mathlib.Core.List.{_++_};
 ghost use Rattle.text.specs.Text.{Appended, ascii, decimal};
 ghost use Rattle.why_text.specs.Line.{causeWord, reasonWord, whyWord, whyLine};
