@@ -1,60 +1,72 @@
 # rt proves and builds what has changed; rt ci starts from nothing and gives the verdict.
-.PHONY: run picture why show replay test bench lib firmware cases
+.PHONY: help run picture why show replay test bench lib firmware cases clean
+
+# The targets, by the lines `## ..` below: what each does, what it needs beside make, and how long it takes on 2 processors.
+help:
+	@awk -F '## |, needs |; ' '/^[a-z]+:.*## / { name = $$1; sub(/:.*/, "", name); \
+	    if (!heads++) printf "%-9s %-62s %-22s %s\n", "make ..", "", "needs", "takes"; \
+	    printf "%-9s %-62s %-22s %s\n", name, $$2, $$3, $$4 }' Makefile
 
 # Document 01's drill: its twelve moves on set T.
-run:
-	@mkdir -p target
-	@rt check drill > target/run.log 2>&1 || { cat target/run.log; exit 1; }
+run: ## the drill of document 01: twelve moves on the example set T, needs rt; 5 min first, then no time
+	@sh tools/need run rt
+	@sh tools/prove drill
 	@cd examples/set-t && ../../target/bin/drill < moves
 
 # The same as a picture: target/drill.svg (needs python3).
-picture:
+picture: ## the same as a picture, target/drill.svg, needs rt, python3; as run
+	@sh tools/need picture rt python3
 	@mkdir -p target
 	@$(MAKE) -s run > target/drill.lines || { cat target/drill.lines; exit 1; }
 	@python3 tools/picture.py --moves examples/set-t/moves < target/drill.lines > target/drill.svg
 	@echo target/drill.svg
 
 # Document 01's drill up to the sleep ask that is refused, and why the panel is awake.
-why:
-	@mkdir -p target
-	@rt check why > target/run.log 2>&1 || { cat target/run.log; exit 1; }
+why: ## six of these moves, and why the panel is still awake, needs rt; as run
+	@sh tools/need why rt
+	@sh tools/prove why
 	@cd examples/set-t && head -n 6 moves | ../../target/bin/why
 
 # The example set T of document 01, in words.
-show:
-	@mkdir -p target
-	@rt check show > target/run.log 2>&1 || { cat target/run.log; exit 1; }
+show: ## set T in words, needs rt; 3 min first, then no time
+	@sh tools/need show rt
+	@sh tools/prove show
 	@cd examples/set-t && ../../target/bin/show
 
 # The example recording: document 01's drill with the sleep message lost.
-replay:
-	@mkdir -p target
-	@rt check replay > target/run.log 2>&1 || { cat target/run.log; exit 1; }
+replay: ## a recorded bus: the example recording, needs rt; as run
+	@sh tools/need replay rt
+	@sh tools/prove replay
 	@cd examples/recording && ../../target/bin/replay < moves
 
 # Layout, proofs, must-fail edits and programs, then the C tests and the comparisons on what was built: the last line is the verdict. The
 # gate's own test first.
-test:
+test: ## everything, the verdict in the last line, needs rt, gcc, g++, python3; 35 min
+	@sh tools/need test rt gcc g++ python3
 	@sh tests/gate/check.sh
 	@sh tests/gate/run.sh rt tests/c/run.sh
 
 # The calls and the drill against straightforward C on the same inputs; then the calls on emulated controllers, where the emulator is there.
-bench:
+bench: ## the C calls and the drill against straightforward C, needs rt, gcc, python3; 10 min
+	@sh tools/need bench rt gcc python3
 	sh tests/c/bench.sh
 	sh tests/firmware/measure.sh
 
 # The C calls for x86-64: target/lib/libcxpi.a.
-lib:
+lib: ## the C calls for x86-64, target/lib/libcxpi.a, needs rt; 5 min first
+	@sh tools/need lib rt
 	@sh firmware/module.sh
 
 # The C calls for controllers: an archive for each and both variants, in target/firmware.
-firmware:
+firmware: ## the C calls for controllers, target/firmware, needs rt, python3; 6 min first
+	@sh tools/need firmware rt python3
 	@sh firmware/module.sh
 	@sh firmware/archives.sh
 
 # Makes the test sets, the machines' cases, the lists of events, the requests to a node, the lists of moves, the recorded moves, the drill's
 # scripts, the cases of why and what must be printed of them, and the drill's picture anew, from documents 01 and 02 (needs python3).
-cases:
+cases: ## the stored cases and what must be printed of them anew, needs python3; 1 min
+	@sh tools/need cases python3
 	python3 tests/sets/make.py
 	python3 tests/machines/make.py
 	python3 tests/batches/make.py
@@ -64,3 +76,7 @@ cases:
 	python3 tests/drills/make.py
 	python3 tests/why/make.py
 	python3 tools/picture.py --moves examples/set-t/moves < crates/drill/stdout > tests/picture/drill.svg
+
+# All that was made.
+clean: ## removes target/, needs nothing; no time
+	rm -rf target
