@@ -1,5 +1,5 @@
 #!/bin/sh
-# Holds docs/TRACE.md and docs/CONFORMANCE.md to the repository; builds the archive and runs the C tests against it: each export under
+# Holds docs/TRACE.md, docs/REQUIREMENTS.md and docs/CONFORMANCE.md to the repository; builds the archive and runs the C tests against it: each export under
 # sanitizers, the comparisons with the independent implementation, the headers and the symbols, the firmware and the station example; the
 # drill, the explanation and the replay of recorded moves against independent ones; the drill's picture; and the archives for controllers. By
 # gcc, and by clang where it is present.
@@ -23,6 +23,8 @@ python3 tests/docs/check_trace.py
 python3 tests/docs/check_trace_test.py
 python3 tests/docs/check_conformance.py
 python3 tests/docs/check_conformance_test.py
+python3 tests/docs/check_requirements.py
+python3 tests/docs/check_requirements_test.py
 
 mkdir -p $out
 # Proves nothing again after rt ci, but for the crates of C calls, which are proved with their archive; their modules are kept for the controllers.
