@@ -1,4 +1,4 @@
-"""Holds the tables of docs/REQUIREMENTS.md to include/cxpi.h, docs/LAYOUTS.md and the set examples/set-t/plan.set.
+"""Holds docs/REQUIREMENTS.md to include/cxpi.h, docs/LAYOUTS.md, the set examples/set-t/plan.set and the stored drill.
 
 Usage: check_requirements.py, at the repository's root.
 
@@ -8,6 +8,7 @@ Where the first column is 'Bytes', no byte up to the table's length is left out 
 The refusals: numbers 0 to the last, each with its constant, and in their words the figures of the header's comment.
 Tables with a column 'In T', the blocks of a set: set T has these bytes, and a limit that is one number is the number in set T.
 Recorded moves, requests of the node configuration and the order of calls: bytes and figures are LAYOUTS.md's.
+The drill's moves and lines are those of crates/drill.
 Numbers of requirements rise by one in each section, and each that is named elsewhere is there."""
 import os
 import re
@@ -17,11 +18,16 @@ sys.dont_write_bytecode = True
 sys.path.append(os.path.join(os.path.dirname(os.path.abspath(__file__)), "..", "c"))
 from check_header import HEADER, LAYOUTS, LIMITS, NUMBER, PREFIX, figures, listed, read_file, read_header
 
-REQUIREMENTS, SET_T = "docs/REQUIREMENTS.md", "examples/set-t/plan.set"
+REQUIREMENTS, SET_T, MOVED, PRINTED = "docs/REQUIREMENTS.md", "examples/set-t/plan.set", "crates/drill/stdin", "crates/drill/stdout"
 NAMES, IN_T, RECORD, REFUSED = "In cxpi.h", "In T", "Record", "Given exactly when"
 MOVES, REQUESTS = ["Bytes", RECORD], ["Request", "Condition", "Answer"]
 BLOCK = 512
 REQUIREMENT = r"R(\d+)\.(\d+)"
+
+
+def read_bytes(path):
+    with open(path, "rb") as file:
+        return file.read()
 
 
 def tables_of(text):
@@ -65,9 +71,10 @@ def limits(row):
 class Papers:
     """What the tables are held to."""
 
-    def __init__(self, header, layouts, set_t):
-        self.numbers, self.comments, _ = read_header(header)
-        self.set_t, tables = set_t, tables_of(layouts)
+    def __init__(self):
+        self.numbers, self.comments, _ = read_header(read_file(HEADER))
+        self.set_t, tables = read_bytes(SET_T), tables_of(read_file(LAYOUTS))
+        self.drill = list(zip(read_file(MOVED).splitlines(), read_file(PRINTED).splitlines()))
         self.layouts, self.refusals = {}, []
         for _, heads, rows in tables:
             if NAMES in heads:
@@ -175,6 +182,13 @@ class Requirements:
         missing = set(self.papers.calls) - {row["Call"] for row in rows.values()}
         self.hold(not missing, "no order of %s", ", ".join(sorted(missing)))
 
+    def drill(self):
+        """The indented lines: a move, and what it prints."""
+        lines = [(at, line) for at, line in enumerate(self.text.split("\n"), 1) if line.startswith("    ")]
+        for (self.line, line), there in zip(lines, self.papers.drill):
+            self.hold(tuple(re.split(" {2,}", line.strip())) == there, "'%s', in the stored drill '%s'", line.strip(), "  ".join(there))
+        self.hold(len(lines) == len(self.papers.drill), "%d moves, in the stored drill %d", len(lines), len(self.papers.drill))
+
     def numbering(self):
         """Numbers of requirements: rising by one in their section, and those that are named are there."""
         named, section, last = [], 0, 0
@@ -224,17 +238,13 @@ class Requirements:
             self.hold(any(is_it(heads) for _, heads, _ in tables), "no table of %s", words)
         for name in self.papers.numbers:
             self.hold(name in self.names, "%s stands in no table", name)
+        self.drill()
         self.numbering()
         return self.wrong
 
 
-def read_bytes(path):
-    with open(path, "rb") as file:
-        return file.read()
-
-
 def main():
-    requirements = Requirements(read_file(REQUIREMENTS), Papers(read_file(HEADER), read_file(LAYOUTS), read_bytes(SET_T)))
+    requirements = Requirements(read_file(REQUIREMENTS), Papers())
     if requirements.check():
         sys.exit("\n".join(requirements.wrong))
     counts = len(requirements.required), len(requirements.names), requirements.held
