@@ -8,7 +8,7 @@ help:
 	    printf "%-9s %-62s %-22s %s\n", name, $$2, $$3, $$4 }' Makefile
 
 # Document 01's drill: its twelve moves on set T.
-run: ## the drill of document 01: twelve moves on the example set T, needs rt; 5 min first, then no time
+run: ## the drill of document 01: twelve moves on the example set T, needs rt; 4 min first, then no time
 	@sh tools/need run rt
 	@sh tools/prove drill
 	@cd examples/set-t && ../../target/bin/drill < moves
@@ -28,7 +28,7 @@ why: ## six of these moves, and why the panel is still awake, needs rt; as run
 	@cd examples/set-t && head -n 6 moves | ../../target/bin/why
 
 # The example set T of document 01, in words.
-show: ## set T in words, needs rt; 3 min first, then no time
+show: ## set T in words, needs rt; 2 min first, then no time
 	@sh tools/need show rt
 	@sh tools/prove show
 	@cd examples/set-t && ../../target/bin/show
@@ -41,31 +41,31 @@ replay: ## a recorded bus: the example recording, needs rt; as run
 
 # Layout, proofs, must-fail edits and programs, then the C tests and the comparisons on what was built: the last line is the verdict. The
 # gate's own test first.
-test: ## everything, the verdict in the last line, needs rt, gcc, g++, python3; 35 min
+test: ## everything, the verdict in the last line, needs rt, gcc, g++, python3; 30 min
 	@sh tools/need test rt gcc g++ python3
 	@sh tests/gate/check.sh
 	@sh tests/gate/run.sh rt tests/c/run.sh
 
 # The calls and the drill against straightforward C on the same inputs; then the calls on emulated controllers, where the emulator is there.
-bench: ## the C calls and the drill against straightforward C, needs rt, gcc, python3; 10 min
+bench: ## the C calls and the drill against straightforward C, needs rt, gcc, python3; 3 min after the proofs
 	@sh tools/need bench rt gcc python3
 	sh tests/c/bench.sh
 	sh tests/firmware/measure.sh
 
 # The C calls for x86-64: target/lib/libcxpi.a.
-lib: ## the C calls for x86-64, target/lib/libcxpi.a, needs rt; 5 min first
+lib: ## the C calls for x86-64, target/lib/libcxpi.a, needs rt; 5 min first, then 1
 	@sh tools/need lib rt
 	@sh firmware/module.sh
 
 # The C calls for controllers: an archive for each and both variants, in target/firmware.
-firmware: ## the C calls for controllers, target/firmware, needs rt, python3; 6 min first
+firmware: ## the C calls for controllers, target/firmware, needs rt, python3; as lib, and 1 min
 	@sh tools/need firmware rt python3
 	@sh firmware/module.sh
 	@sh firmware/archives.sh
 
 # Makes the test sets, the machines' cases, the lists of events, the requests to a node, the lists of moves, the recorded moves, the drill's
 # scripts, the cases of why and what must be printed of them, and the drill's picture anew, from documents 01 and 02 (needs python3).
-cases: ## the stored cases and what must be printed of them anew, needs python3; 1 min
+cases: ## the stored cases and what must be printed of them anew, needs python3; 1 s
 	@sh tools/need cases python3
 	python3 tests/sets/make.py
 	python3 tests/machines/make.py
