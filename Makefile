@@ -53,7 +53,7 @@ bench: ## the C calls and the drill against straightforward C, needs rt, gcc, py
 	sh tests/firmware/measure.sh
 
 # The C calls for x86-64: target/lib/libcxpi.a.
-lib: ## the C calls for x86-64, target/lib/libcxpi.a, needs rt; 5 min first, then 1
+lib: ## the C calls for x86-64, target/lib/libcxpi.a, needs rt; 2 min after run
 	@sh tools/need lib rt
 	@sh firmware/module.sh
 

@@ -42,13 +42,13 @@ use Rattle.bus.specs.declared.Moved.{Moved}
 use Rattle.bus.specs.declared.World.{World}
 use Rattle.bus.specs.Messages.{messageRefusal, judgedMessage, carried, arrive, deliver, deliveredIn, publishFound, sendAskBy, sendingBy, sleepAskMove, resultAfter}
 use Rattle.bus.specs.Moves.{actBy, worldAct}
-use Rattle.bus.specs.Owners.{ofNode, nodeWakeAsk, nodePermission}
+use Rattle.bus.specs.Owners.{nodeWakeAsk, nodePermission}
 use Rattle.bus.specs.Pulses.{withCaller, anyCalled, receiveIf, reachAll, spread}
 use Rattle.bus.specs.Ticks.{tickedNodes, tickCallers, tickMove}
 use Rattle.bus.specs.World.{powerOn, nodesUsed, noNode, nodeAt, stays}
 use Rattle.history.specs.Run.{Run, then, runFrom, run, start}
 use Rattle.history.specs.Words.{none, isStop}
-use Rattle.demand.proofs.EachNode.{Each, over, one, heard}
+use Rattle.demand.proofs.EachNode.{Each, over, one, of-node, heard}
 use Rattle.demand.proofs.Nodes.{few}
 
 -- a node awake, without error
@@ -93,9 +93,6 @@ module _ (p : Plan) (ok : planRefusal p ≡ 0) where
     stays-kept : (number : ℕ) → Kept (stays w number)
     stays-kept number = kept (stays w number) (v .nodes) (v .master) refl
 
-    of-node : (node : ℕ) (o : Moved) → (node < p .nodecount → Kept o) → Kept (ofNode (nodesUsed (p .nodecount)) node w o)
-    of-node node o h = by-test Kept (ltb node (nodesUsed (p .nodecount))) (λ l. h (omega (arith, ltb-true node (nodesUsed (p .nodecount)) l))) (λ l. stays-kept 11)
-
     hears : (callers : Callers) (bus : Bus) (m : Master) (nodes : List Node) → Each (p .nodecount) Clear nodes
         → Each (p .nodecount) Clear (spread (nodesUsed (p .nodecount)) callers bus (record { master = m; nodes = nodes }) .nodes)
     hears callers bus m nodes =
@@ -130,7 +127,7 @@ module _ (p : Plan) (ok : planRefusal p ≡ 0) where
             (lit (clockOn next) (ap isNormal (MasterAwake.awake-normal next (stay .0)))))
 
     wake-ask-kept : (node : ℕ) (bus : Bus) → Kept (nodeWakeAsk false (nodesUsed (p .nodecount)) node bus w)
-    wake-ask-kept node bus = of-node node _ (λ l.
+    wake-ask-kept node bus = of-node (p .nodecount) Kept node w _ (stays-kept 11) (λ l.
         let asked = NodeWaking.wakeAskStep false (nodeAt (w .nodes) node) in
         let callers = withCaller Callers.Nobody node (asked .command) in
         let q = v .nodes .each node l in
@@ -139,7 +136,7 @@ module _ (p : Plan) (ok : planRefusal p ≡ 0) where
         (spread-awake (nodesUsed (p .nodecount)) callers bus (w .master) (set (w .nodes) node (asked .node)) (v .master)) refl)
 
     permission-kept : (node : ℕ) (permitted : Bool) → Kept (nodePermission false (nodesUsed (p .nodecount)) node permitted w)
-    permission-kept node permitted = of-node node _ (λ l.
+    permission-kept node permitted = of-node (p .nodecount) Kept node w _ (stays-kept 11) (λ l.
         let q = v .nodes .each node l in
         kept _ (alone node _ l (NodeAwake.awake-permission (λ e. e ≡ false) (nodeAt (w .nodes) node) (q .0) (q .1) permitted)) (v .master) refl)
 
@@ -203,7 +200,7 @@ module _ (p : Plan) (ok : planRefusal p ≡ 0) where
         subst (λ (s : Bool). Kept (nodePermission s (nodesUsed (p .nodecount)) node permitted w)) (sym never) (permission-kept node permitted)
     move-kept never bus (Act.MasterPermission permitted) = kept _ (v .nodes) (MasterAwake.awake-permission (w .master) permitted (v .master) .0) refl
     move-kept never bus (Act.Request reqid) = judged-kept reqid (bus .fate) _ (request-kept bus (findRow p reqid))
-    move-kept never bus (Act.SendAsk node reqid) = of-node node _ (λ l. judged-kept reqid (bus .fate) _ (send-ask-kept node (bus .fate) (findRow p reqid) l))
+    move-kept never bus (Act.SendAsk node reqid) = of-node (p .nodecount) Kept node w _ (stays-kept 11) (λ l. judged-kept reqid (bus .fate) _ (send-ask-kept node (bus .fate) (findRow p reqid) l))
     move-kept never bus Act.SleepAsk = subst (λ (s : Bool). Kept (sleepAskMove s (p .nodecount) w)) (sym never) sleep-ask-kept
     move-kept never bus (Act.SendResult sent) = result-kept sent bus
 

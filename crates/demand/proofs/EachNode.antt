@@ -3,10 +3,12 @@ use Prim.Native.Nat.{ℕ, _≤_, _<_}
 use mathlib.Core.Path.{_≡_, _∙_}
 use mathlib.Core.Bool.{true, false}
 use mathlib.Core.List.{List}
+use lib.Dec.{ltb}
 use lib.ListN.{length, getD, set, length-set}
 use lib.Seq.{getD-set-same, getD-set-other}
 use native.Mathlib.Omega.{arith}
 use native.Mathlib.Decide.{ℕ-discrete}
+use borrow.Author.Tests.{ltb-true}
 use Rattle.folds.proofs.Choices.{by-test}
 use Rattle.node.specs.declared.Node.{Node}
 use Rattle.node.specs.Waking.{pulseStep}
@@ -14,10 +16,12 @@ use Rattle.master.specs.declared.Master.{Master}
 use Rattle.bus.specs.declared.Bus.{Bus}
 use Rattle.bus.specs.declared.Callers.{Callers}
 use Rattle.bus.specs.declared.Message.{Message}
+use Rattle.bus.specs.declared.Moved.{Moved}
 use Rattle.bus.specs.declared.World.{World}
 use Rattle.bus.specs.Each.{eachTo}
+use Rattle.bus.specs.Owners.{ofNode}
 use Rattle.bus.specs.Pulses.{anyCalled, otherCalled, receiveIf, reachAll, spread}
-use Rattle.bus.specs.World.{nodesUsed, noNode, nodeAt}
+use Rattle.bus.specs.World.{nodesUsed, noNode, nodeAt, stays}
 use Rattle.bus.proofs.EachOne.{each-length, each-get}
 
 pub record Each (n : ℕ) (Q : ℕ → Node → Type 0) (nodes : List Node) : Type 0 where
@@ -49,6 +53,10 @@ module _ (n : ℕ) (few : n ≤ 16) (Q R : ℕ → Node → Type 0) (nodes : Lis
       go : (i : ℕ) → i < n → Dec (i ≡ k) → R i (nodeAt (set nodes k x) i)
       go i l (yes e) = rw (e, getD-set-same nodes k x noNode within) told
       go i l (no e) = rw (getD-set-other nodes k i x noNode e) (others i l e (v .each i l))
+
+-- 11, or a node of the plan
+pub of-node : (n : ℕ) (Kept : Moved → Type 0) (node : ℕ) (w : World) (o : Moved) → Kept (stays w 11) → (node < n → Kept o) → Kept (ofNode (nodesUsed n) node w o)
+of-node n Kept node w o refused h = by-test Kept (ltb node (nodesUsed n)) (λ l. h (omega (arith, ltb-true node (nodesUsed n) l))) (λ l. refused)
 
 -- pulses are heard or not
 pub heard : (n : ℕ) → n ≤ 16 → (Q : ℕ → Node → Type 0) (callers : Callers) (bus : Bus) (m : Master) (nodes : List Node)

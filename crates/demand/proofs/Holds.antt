@@ -51,7 +51,7 @@ use Rattle.bus.specs.declared.Move.{Move}
 use Rattle.bus.specs.declared.World.{World}
 use Rattle.bus.specs.Messages.{fateRight, messageRefusal, judgedMessage, sentLength, carried, arrive, deliver, deliveredIn, publishFound, sendAskBy, sendingBy}
 use Rattle.bus.specs.Moves.{actBy, worldAct}
-use Rattle.bus.specs.Owners.{ofNode, wakeAskBy, permissionBy}
+use Rattle.bus.specs.Owners.{wakeAskBy, permissionBy}
 use Rattle.bus.specs.Pulses.{withCaller, anyCalled, reachAll, spread}
 use Rattle.bus.specs.Ticks.{tickedNodes, tickCallers}
 use Rattle.bus.specs.declared.Delivered.{Delivered}
@@ -63,6 +63,7 @@ use Rattle.demand.specs.Demand3.{settlingTime, Settles, Wakes, SleepsAnd
 use Rattle.history.specs.Run.{Run, then, runFrom, run, start}
 use Rattle.history.specs.Words.{nodePermitted}
 use Rattle.demand.proofs.Awake.{run-awake}
+use Rattle.demand.proofs.EachNode.{of-node}
 use Rattle.demand.proofs.Masters as Masters
 use Rattle.demand.proofs.Masters.{MasterTold}
 use Rattle.demand.proofs.Nodes as Nodes
@@ -110,10 +111,6 @@ module _ (p : Plan) (ok : planRefusal p ≡ 0) (past : List Passed) where
 
   stays-told : (w : World) (number : ℕ) → AsTold p w past → Kept (stays w number)
   stays-told w number v = record { nodes = record { size = v .nodes .size; each = v .nodes .each }; master = Masters.nothing-told p ok past (w .master) (v .master) }
-
-  -- 11, or a node of the plan
-  of-node : (node : ℕ) (w : World) (o : Moved) → AsTold p w past → (node < p .nodecount → Kept o) → Kept (ofNode (nodesUsed (p .nodecount)) node w o)
-  of-node node w o v h = by-test Kept (ltb node (nodesUsed (p .nodecount))) (λ l. h (omega (arith, ltb-true node (nodesUsed (p .nodecount)) l))) (λ l. stays-told w 11 v)
 
   -- in Normal an answer of a plan's row is judged by that row
   module _ (w : World) (v : AsTold p w past) (reqid : ℕ) (row : Row) (fate : Fate) (found : findRow p reqid ≡ Lookup.Found row) (moves : Moves reqid fate (w .master .state)) where
@@ -225,7 +222,7 @@ module _ (p : Plan) (ok : planRefusal p ≡ 0) (past : List Passed) where
     move-told bus (Act.NodeWakeAsk node) =
         let reply = NodeWaking.wakeAskStep (sleeps p) (nodeAt (w .nodes) node) in
         let callers = withCaller Callers.Nobody node (reply .command) in
-        of-node node w (wakeAskBy (nodesUsed (p .nodecount)) node bus w reply) v
+        of-node (p .nodecount) Kept node w (wakeAskBy (nodesUsed (p .nodecount)) node bus w reply) (stays-told w 11 v)
         (λ l. record {
           nodes = Nodes.wake-ask-told p ok node (anyCalled callers && bus .master) callers bus (w .master) (w .nodes) past (v .nodes) l;
           master =
@@ -236,7 +233,7 @@ module _ (p : Plan) (ok : planRefusal p ≡ 0) (past : List Passed) where
     move-told bus Act.MasterWakeAsk =
         record { nodes = Nodes.asked-told p ok true (w .nodes) past (v .nodes); master = Masters.asked-told p ok past true (w .master) (v .master) }
     move-told bus (Act.NodePermission node permitted) =
-        of-node node w (permissionBy node permitted w (NodeWaking.permissionStep (sleeps p) permitted (nodeAt (w .nodes) node))) v
+        of-node (p .nodecount) Kept node w (permissionBy node permitted w (NodeWaking.permissionStep (sleeps p) permitted (nodeAt (w .nodes) node))) (stays-told w 11 v)
         (λ l. record {
           nodes = Nodes.permission-told p ok node permitted (w .nodes) past (v .nodes) l;
           master = Masters.node-permits-told p ok past node permitted (w .master) (v .master);
@@ -245,8 +242,8 @@ module _ (p : Plan) (ok : planRefusal p ≡ 0) (past : List Passed) where
         record { nodes = record { size = v .nodes .size; each = v .nodes .each }; master = Masters.permission-told p ok past permitted (w .master) (v .master) }
     move-told bus (Act.Request reqid) = judged-told reqid (bus .fate) (publishFound (nodesUsed (p .nodecount)) bus w (findRow p reqid)) (request-told reqid bus)
     move-told bus (Act.SendAsk node reqid) =
-        of-node node w
-        (judgedMessage (messageRefusal reqid (bus .fate) (w .master .state)) w (sendAskBy node (isPolled p node) (bus .fate) w (findRow p reqid))) v
+        of-node (p .nodecount) Kept node w
+        (judgedMessage (messageRefusal reqid (bus .fate) (w .master .state)) w (sendAskBy node (isPolled p node) (bus .fate) w (findRow p reqid))) (stays-told w 11 v)
         (λ l. judged-told reqid (bus .fate) (sendAskBy node (isPolled p node) (bus .fate) w (findRow p reqid)) (send-ask-told node reqid bus l))
     move-told bus Act.SleepAsk =
         record { nodes = sending-unseen (sleepAskStep (sleeps p) (p .nodecount) (w .master) .command); master = Masters.ask-told p ok past (w .master) (v .master) }
