@@ -71,7 +71,7 @@ cases: ## the stored cases and what must be printed of them anew, needs python3;
 	python3 tests/machines/make.py
 	python3 tests/batches/make.py
 	python3 tests/configuration/make.py
-	python3 tests/runs/make.py
+	python3 tests/moves/make.py
 	python3 tests/replay/make.py
 	python3 tests/drills/make.py
 	python3 tests/why/make.py

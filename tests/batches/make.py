@@ -1,5 +1,5 @@
 #!/usr/bin/env python3
-"""Writes the lists of crates/batch_cases and what must be printed of each: stdin and stdout.
+"""Writes the lists of crates/test_batch and what must be printed of each: stdin and stdout.
 
 Run at the repository's root. A list is a byte for the plan (0 right, 1 with revision 0, 2 of panels that never sleep, 3 with variable rows: 16
 of kind 3, with a sequence count, and 17 of kind 2, without one), a byte for the start (0 the plan's power-on, 1 what the list before it left, 2 a
@@ -104,7 +104,7 @@ case(GO_ON, [answer(17, 2), SLEEP, answer(16, 1, count=3), SENT, answer(17, 0), 
 case(GO_ON, [answer(16, 0, count=0, result=1), TICK, answer(16, 0, count=0, wake=1), answer(16, 1, count=4), answer(18, 0), answer(17, 1, count=3)],
      "Normal Open permits - 0 held 0 0 0 5", ["13 0 0 0", DONE, DONE, "15 0 0 0", "12 0 0 0", DONE], plan=VARIABLE)
 
-with open("crates/batch_cases/stdin", "wb") as file:
+with open("crates/test_batch/stdin", "wb") as file:
     file.write(b"".join(stdin))
-with open("crates/batch_cases/stdout", "w") as file:
+with open("crates/test_batch/stdout", "w") as file:
     file.write("\n".join(stdout) + "\n")

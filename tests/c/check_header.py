@@ -1,4 +1,4 @@
-"""Holds the numbers of include/cxpi.h, of docs/LAYOUTS.md and of the layouts' places in specs/ to each other.
+"""Holds the numbers of include/cxpi.h, of docs/LAYOUTS.md and of the layouts' offsets in specs/ to each other.
 
 Usage: check_header.py, at the repository's root.
 
@@ -9,7 +9,7 @@ import re
 import sys
 
 HEADER, LAYOUTS, STACK = "include/cxpi.h", "docs/LAYOUTS.md", "tests/firmware/run.sh"
-PLACES = ["plan_bytes/Places", "master_bytes/Places", "node_bytes/Places", "node_configuration/Places"]  # all of them in the tables
+OFFSETS = ["set_record/Offsets", "packed_master/Offsets", "packed_node/Offsets", "machine_node_configuration/Offsets"]  # all of them in the tables
 LIMITS = ["Limit", "Bytes in all", "Then"]  # columns whose numbers a constant's comment has too
 PREFIX = "CXPI_"
 NUMBER = r"0x[0-9A-Fa-f]+|0|[1-9]\d*"
@@ -117,7 +117,7 @@ def check_definitions(tables, read):
                     wrong.append("%s has no definition %s" % (file, name))
                 elif number and int(number[1], 0) != numbers_of(row)[0]:
                     wrong.append("%s: %s is %s, LAYOUTS.md has %d" % (file, name, number[1], numbers_of(row)[0]))
-    for file in PLACES:
+    for file in OFFSETS:
         for name in re.findall(r"\bpub (\w+)\b", read(spec_path(file))):
             if named.count((file, name)) != 1:
                 wrong.append("%s: %s is named in %d rows of LAYOUTS.md" % (file, name, named.count((file, name))))

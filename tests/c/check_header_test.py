@@ -1,7 +1,7 @@
-"""Changes each number of the header, of LAYOUTS.md and of the places by one: check_header.py must find it, and the probes a constant's.
+"""Changes each number of the header, of LAYOUTS.md and of the offsets by one: check_header.py must find it, and the probes a constant's.
 
 Usage: check_header_test.py ARCHIVE, at the repository's root: the archive to which the header is held. The probes are compiled with
-each changed header, so that a number that header, LAYOUTS.md and places had wrong alike would be found by the archive."""
+each changed header, so that a number that header, LAYOUTS.md and offsets had wrong alike would be found by the archive."""
 import concurrent.futures
 import os
 import re
@@ -11,7 +11,7 @@ import tempfile
 
 sys.dont_write_bytecode = True
 import check_header
-from check_header import HEADER, LAYOUTS, LIMITS, NUMBER, PLACES, read_file, spec_path
+from check_header import HEADER, LAYOUTS, LIMITS, NUMBER, OFFSETS, read_file, spec_path
 
 
 def changed(text, start, end, by):
@@ -80,7 +80,7 @@ def main():
     in_layouts = [place for cell, _ in [*cells(layouts, ""), *limits] for place in within(cell, 0)]
     tried = [(HEADER, *edit) for edit in edits(header, constants(header) + comments(header, {name for _, name in limits}))]
     tried += [(LAYOUTS, *edit) for edit in edits(layouts, in_layouts)]
-    for path in map(spec_path, PLACES):
+    for path in map(spec_path, OFFSETS):
         tried += [(path, *edit) for edit in edits(read_file(path), places(read_file(path)))]
     tried += [(HEADER, "the stack", 0, header.replace(" * Stack: a call takes at most ", " * Stack: a call takes at most 1")),
               (HEADER, "a constant left out", 0, re.sub(r"^#define CXPI_FILLER .*\n", "", header, flags=re.M)),

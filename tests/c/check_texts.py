@@ -28,7 +28,7 @@ def said_by_show(show, path):
 def main():
     texts, show = sys.argv[1], os.path.abspath(sys.argv[2])
     words = said_in_c(texts)
-    shown = {said_by_show(show, path) for path in sorted(glob.glob("crates/set_cases/data/*.set"))} - {None}
+    shown = {said_by_show(show, path) for path in sorted(glob.glob("crates/test_sets/data/*.set"))} - {None}
     wrong = ["%d: show prints %r, C has %r" % (number, line, words[number]) for number, line in sorted(shown) if words[number] != line]
     wrong += ["%d: no set that show refuses so" % number for number in OF_A_SET if number not in dict(shown)]
     others = {line for number, line in words.items() if number not in REFUSALS}

@@ -28,7 +28,7 @@ python3 tests/docs/check_requirements_test.py
 
 mkdir -p $out
 # Proves nothing again after rt ci, but for the crates of C calls, which are proved with their archive; their modules are kept for the controllers.
-rt check drill why replay replay_states show > $out/log 2>&1 || { cat $out/log; exit 1; }
+rt check drill why replay test_states show > $out/log 2>&1 || { cat $out/log; exit 1; }
 sh firmware/module.sh
 sh tests/c/symbols.sh $archive include/cxpi.h
 
@@ -66,7 +66,7 @@ python3 tests/picture/check.py
 # The drill against the independent one: long lists, plain and with odd lines, over both profiles.
 gcc $flags -O2 $independent/make_set.c $independent/big_plan.c $independent/reference.c -o $out/make_set
 gcc $flags -O2 $independent/drill.c $independent/reference.c -o $out/reference_drill
-python3 $independent/compare_drills.py crates/drills $out/reference_drill
+python3 $independent/compare_drills.py crates/test_drills $out/reference_drill
 for profile in "" profile; do
     $out/make_set $profile > $out/plan.set
     for seed in 1 2 3; do
@@ -87,9 +87,9 @@ python3 tests/why/compare.py target/bin/why "$out/reference_drill why"
 # Recorded moves: the independent bus by lists worked out by hand and by faults that must be found; then the product by the same lists, by
 # the example recording, and against it on two million random moves.
 sh $independent/check_replay.sh
-python3 $independent/check_replay.py target/bin/replay target/bin/replay_states
+python3 $independent/check_replay.py target/bin/replay target/bin/test_states
 (cd examples/recording && ../../target/bin/replay < moves | cmp - stdout)
-sh $independent/compare_moves.sh target/bin/replay target/bin/replay_states
+sh $independent/compare_moves.sh target/bin/replay target/bin/test_states
 
 # The same calls for controllers.
 sh tests/firmware/run.sh

@@ -4,7 +4,7 @@
 # Run: sh tests/c/station.sh STATION | cmp - examples/station/stdout
 set -eu
 station=$(realpath "$1")
-cd "$(dirname "$0")/../../crates/set_cases/data"
+cd "$(dirname "$0")/../../crates/test_sets/data"
 
 try() {
     printf station

@@ -1,5 +1,5 @@
 #!/usr/bin/env python3
-"""Writes requests to a node, W-202, and what must be printed of each: crates/configuration_cases/args and stdout.
+"""Writes requests to a node, W-202, and what must be printed of each: crates/test_node_configuration/args and stdout.
 
 Run at the repository's root. The node is of supplier 0123, function 4567 and variant 89, its serial number is 01020304, all hex. Each case
 gives the answer buffer's length and the request and, by hand from W-202 and ISO 14229-8's tables, what comes of it. Nothing here calls the
@@ -89,7 +89,7 @@ printed.append("lengths 0 to 4096 of 2E FF 07 01 23 45 67 41: 1 taken, 4096 refu
 printed.append("lengths 0 to 4096 of 22 FF 05: 1 taken, 4096 refused 23, 0 refused 24")
 printed.append("lengths 0 to 4096 of 10: 0 taken, 1 refused 23, 4096 refused 24")
 
-with open("crates/configuration_cases/args", "w") as file:
+with open("crates/test_node_configuration/args", "w") as file:
     file.write("".join(case + "\n" for case in args))
-with open("crates/configuration_cases/stdout", "w") as file:
+with open("crates/test_node_configuration/stdout", "w") as file:
     file.write("".join(line + "\n" for line in printed))

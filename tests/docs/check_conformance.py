@@ -10,7 +10,7 @@ import re
 import sys
 
 CONFORMANCE = "docs/CONFORMANCE.md"
-DRILLS, CASES = "crates/drills/", "crates/machine_cases/"
+DRILLS, CASES = "crates/test_drills/", "crates/test_machines/"
 # Of ISO 20794-5: how many tests each group of numbers has; clauses whose tests have no number in the copy at hand.
 GROUPS = {1: 6, 2: 4, 3: 8, 4: 7, 5: 4, 6: 9, 10: 7}
 TESTS = ["%d.%d" % (group, test + 1) for group, tests in GROUPS.items() for test in range(tests)]

@@ -4,7 +4,7 @@ Usage: check_trace.py, at the repository's root.
 
 By columns. Definition: `crate/File: name, name`, in specs/, and what the code declares. Promise: functions with an `ensures`. Theorem:
 `name, name (crate/File)`, in proofs/; a name without a file is one that another row has with its file. Test: sets, edits, files with
-their functions and texts, edges, and in italics cases. In a case `..` stands for any text, and `A to B` names both ends. Elsewhere what
+their functions and texts, proved cases, and in italics cases. In a case `..` stands for any text, and `A to B` names both ends. Elsewhere what
 stands in backquotes must be a name of the code, a definition, a theorem or a path, unless it is a formula, which has spaces.
 Other words of a cell are prose and not looked at; but a word that stands alone is a name."""
 import collections
@@ -16,7 +16,7 @@ import sys
 TRACE = "docs/TRACE.md"
 FILE = r"[a-z_]+/[A-Z]\w*"
 EDIT = r"([a-z_]+)/must-fail(?:/(\w+))?"
-EDGE = r"(?:edges? )?\(\d+\)"
+PROVED_CASE = r"(?:proved cases? )?\(\d+\)"
 FILE_NAME = r"[\w-]+\.(?:c|h|py|sh|md|txt)"
 PATH = r"[\w.-]+(?:/[\w.-]*)+|crates\.txt"
 DEFINITION = r"^(?:\w+ )?pub (?:record |data )?([^\s:]+)"
@@ -24,7 +24,7 @@ THEOREM = r"^ *(?:\w+ )?pub (?:record |data )?([^\s:]+)|^(?:  )?([^\s:]+) :"  # 
 VISIBLE = r"(?:pub(?:\(crate\))? )?"
 WORDS = {"ensures", "requires"}  # of the language
 PLAIN = {"comparison", "drills", "none"}  # words that stand alone and name nothing
-CASE_NUMBERS = 22  # before the text of a line of machine_cases; the first is 0 for a master, 1 for a node
+CASE_NUMBERS = 22  # before the text of a line of test_machines; the first is 0 for a master, 1 for a node
 
 
 def read_file(path):
@@ -75,15 +75,15 @@ class Repository:
         self.specs, self.proofs, self.code = stated("specs", DEFINITION), stated("proofs", THEOREM), Code()
         self.edits = {path[len("crates/"):-len(".edit")] for path in glob.glob("crates/*/must-fail/*.edit")}
         self.test_files = {os.path.basename(path): path for path in glob.glob("tests/*/*")}
-        lines = [line.split(" ", CASE_NUMBERS) for line in lines_of("crates/machine_cases/stdin") if line]
+        lines = [line.split(" ", CASE_NUMBERS) for line in lines_of("crates/test_machines/stdin") if line]
         self.cases = {"master": [line[-1] for line in lines if line[0] == "0"], "node": [line[-1] for line in lines if line[0] == "1"]}
         self.cases["machine"] = self.cases["master"] + self.cases["node"]
-        for name, folder in [("drill", "crates/drills"), ("why", "tests/why")]:
+        for name, folder in [("drill", "crates/test_drills"), ("why", "tests/why")]:
             arguments = lines_of(folder + "/args")
             self.cases[name], self.cases["set of " + name] = arguments[1::2], [path[:-len(".set")] for path in arguments[::2]]
-        self.cases["set"] = [path[:-len(".set")] for path in lines_of("crates/set_cases/args") if path]
-        self.cases["run"] = [path[:-len(".moves")] for path in lines_of("crates/run_cases/args") if path]
-        self.edges = len(re.findall(r"^    (?:∷ )?(?:Reads|Steps) ", read_file("crates/edges/specs/Edges.antt"), flags=re.M))
+        self.cases["set"] = [path[:-len(".set")] for path in lines_of("crates/test_sets/args") if path]
+        self.cases["run"] = [path[:-len(".moves")] for path in lines_of("crates/test_moves/args") if path]
+        self.proved_cases = len(re.findall(r"^    (?:∷ )?(?:Reads|Steps) ", read_file("crates/test_proved_cases/specs/Cases.antt"), flags=re.M))
 
     def has_case(self, kind, text):
         form = re.compile(".*".join(map(re.escape, re.split(r" ?\.\. ?", text))))
@@ -211,8 +211,8 @@ class Trace:
                     self.file("proofs", file)
                 for case in re.findall(r"\*([^*]*)\*", item):
                     self.theorem(case, [file])
-                if re.fullmatch(EDGE, item):
-                    self.edge(item)
+                if re.fullmatch(PROVED_CASE, item):
+                    self.proved_case(item)
                 elif re.fullmatch(r"[\w-]+", name):
                     pending.append(name)
                 if files and re.fullmatch(r"[a-z_]+(/[A-Z]\w*)?(, [a-z_]+/[A-Z]\w*)*", files):
@@ -224,8 +224,8 @@ class Trace:
                     pending = []
             self.bare += [(self.line, name) for name in pending]
 
-    def edge(self, item):
-        self.hold("edge", item, 1 <= int(re.search(r"\d+", item)[0]) <= self.repository.edges)
+    def proved_case(self, item):
+        self.hold("proved case", item, 1 <= int(re.search(r"\d+", item)[0]) <= self.repository.proved_cases)
 
     def tests(self, cell):
         named = []
@@ -263,7 +263,7 @@ class Trace:
         self.codes(line)
         if "cases of `tests/why`" in line:
             self.cases = "why"
-        elif "cases of `machine_cases`" in line:
+        elif "cases of `test_machines`" in line:
             self.cases = "machine"
         for prefix in re.findall(r"under \*([^*]*)\.\.\*", line):
             self.prefix = prefix
@@ -306,8 +306,8 @@ class Tests:
         if edit:
             self.crate = edit[1]
             trace.hold("edit", plain, plain in self.repository.edits if edit[2] else os.path.isdir("crates/" + plain))
-        elif re.fullmatch(EDGE, text):
-            trace.edge(text)
+        elif re.fullmatch(PROVED_CASE, text):
+            trace.proved_case(text)
         elif re.match(FILE, plain):
             trace.file("proofs", re.match(FILE, plain)[0])
         elif re.fullmatch(PATH, plain) or plain.strip("`") in self.repository.test_files:
@@ -345,7 +345,7 @@ class Tests:
                 self.output(name)
             else:
                 self.trace.code(name)
-                self.kind = "run" if is_head and name == "run_cases" else self.kind
+                self.kind = "run" if is_head and name == "test_moves" else self.kind
         for name in re.findall(r"\*([^*]*)\*", text):
             self.italic(name)
         self.trace.paths(text)
@@ -353,7 +353,7 @@ class Tests:
     def output(self, line):
         """A line that the sets' program prints, or its end; N is any number."""
         printed = re.compile(r"^(?:write \d+ \d+ )?%s$" % line.replace(" N ", r" \d+ "), flags=re.M)
-        self.trace.hold("output", line, printed.search(read_file("crates/set_cases/stdout")))
+        self.trace.hold("output", line, printed.search(read_file("crates/test_sets/stdout")))
 
     def italic(self, name):
         if name.startswith("-"):

@@ -1,5 +1,5 @@
 #!/usr/bin/env python3
-"""Writes the drill's test data: the sets and scripts in crates/drills/data, crates/drills/args and crates/drills/stdout, and those of
+"""Writes the drill's test data: the sets and scripts in crates/test_drills/data, crates/test_drills/args and crates/test_drills/stdout, and those of
 crates/drill.
 
 Run at the repository's root. Beside each move stands what it prints by documents 01 and 02; the line's number is put before it.
@@ -11,7 +11,7 @@ from scripts import EVENT, MASTER, POLLED, Scripts, write
 from layout import mended
 
 DRILL = "crates/drill"
-drills = Scripts("crates/drills")
+drills = Scripts("crates/test_drills")
 sets, release_set, raw, script = drills.sets, drills.release_set, drills.raw, drills.script
 
 # Times are W window, D clock stop, S node sleep, E quiet limit, R wake-up recovery, P wake-up space, C clock start.

@@ -1,5 +1,5 @@
 #!/usr/bin/env python3
-"""Writes the cases of both machines and what must be printed of each: crates/machine_cases/stdin and stdout.
+"""Writes the cases of both machines and what must be printed of each: crates/test_machines/stdin and stdout.
 
 Run at the repository's root. Each case gives a state, an event and, by hand from documents 01 and 02, what the step changes. Nothing
 here calls the product or works a rule out: what is not named as changed stays as given.
@@ -538,5 +538,5 @@ node(AWAKE, ask(128), "ask to send ReqId 128", refusal=15)
 node(ASLEEP, request(255), "15 before 16", refusal=15)
 
 for name, lines in [("stdin", stdin), ("stdout", stdout)]:
-    with open("crates/machine_cases/" + name, "w") as f:
+    with open("crates/test_machines/" + name, "w") as f:
         f.write("\n".join(lines) + "\n")

@@ -1,5 +1,5 @@
 #!/usr/bin/env python3
-"""Writes recorded moves and what must be written of them: data/plan.set, stdin and stdout of crates/replay and crates/replay_states.
+"""Writes recorded moves and what must be written of them: data/plan.set, stdin and stdout of crates/replay and crates/test_states.
 
 Run at the repository's root. Beside each record stands what it prints, or the fields that it changes, by hand from documents 01 and 02.
 Nothing here calls the product or works a rule out."""
@@ -7,7 +7,7 @@ import os
 import sys
 
 sys.dont_write_bytecode = True
-sys.path[:0] = ["tests/sets", "tests/runs"]
+sys.path[:0] = ["tests/sets", "tests/moves"]
 from layout import plan_set
 from records import DAMAGED, LOST, NONE, SENT, SLEEP_ASK, TICK, move
 
@@ -192,6 +192,6 @@ frames = [
      frame(NO_MOVE, 0, awake_master, [asked] * 3, last={16: 0, 17: 1}, causes={0: WAKE, 1: REFUSED, 2: REFUSED}, counts={16: 1, 17: 2, 18: 2})),
 ]
 nodes, rows = [(0x41 + i, 1, EVENT) for i in range(3)], [(16, 0, 2, 1), (17, 1, 2, 3), (18, 2, 2, 2)]
-write("replay_states", "data/plan.set", plan_set(7, [10, 2, 3, 4, 1, 6, 1], nodes, rows))
-write("replay_states", "stdin", b"".join(data for data, _ in frames))
-write("replay_states", "stdout", b"".join(data for _, data in frames))
+write("test_states", "data/plan.set", plan_set(7, [10, 2, 3, 4, 1, 6, 1], nodes, rows))
+write("test_states", "stdin", b"".join(data for data, _ in frames))
+write("test_states", "stdout", b"".join(data for _, data in frames))

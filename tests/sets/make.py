@@ -1,7 +1,7 @@
 #!/usr/bin/env python3
 """Makes the sets that the programs are tested on, and what must be printed of each, from documents 01 and 02 alone.
 
-Run at the repository's root. It writes crates/set_cases/data/*.set, crates/set_cases/args, crates/set_cases/stdout,
+Run at the repository's root. It writes crates/test_sets/data/*.set, crates/test_sets/args, crates/test_sets/stdout,
 crates/show/data/plan.set, crates/show/stdout and examples/set-t/plan.set. The numbers and words below are document 01's; nothing here
 calls the product."""
 import os
@@ -167,9 +167,9 @@ def store(path, data):
 
 
 for name, data, _ in cases:
-    store("crates/set_cases/data/%s.set" % name, data)
-store("crates/set_cases/args", "".join("%s.set\n" % name for name, _, _ in cases).encode())
-store("crates/set_cases/stdout", "".join(printed(*case) for case in cases).encode())
+    store("crates/test_sets/data/%s.set" % name, data)
+store("crates/test_sets/args", "".join("%s.set\n" % name for name, _, _ in cases).encode())
+store("crates/test_sets/stdout", "".join(printed(*case) for case in cases).encode())
 store("crates/show/data/plan.set", set_t)
 store("crates/show/stdout", words(**T).encode())
 store("examples/set-t/plan.set", set_t)

@@ -5,9 +5,9 @@ use mathlib.Core.Bool.{Bool, true, false, _&&_}
 use lib.Dec.{leb, eqb}
 use native.Mathlib.Omega.{arith}
 use borrow.Author.Tests.{eq-eqb, eqb-true, le-leb}
-use Rattle.folds.specs.Fold.{pick}
-use Rattle.plan.specs.declared.Row.{Row}
-use Rattle.plan.specs.Answers.{isVariable, accepts}
+use Rattle.base_lists.specs.Bounded.{ifElse}
+use Rattle.set_plan.specs.declared.Row.{Row}
+use Rattle.set_plan.specs.Answering.{isVariable, accepts}
 use Rattle.bus.specs.Messages.{sentLength}
 
 module _ (row : Row) where
@@ -15,7 +15,7 @@ module _ (row : Row) where
   sent-accepted length = go (isVariable row) (leb length (row .length)) refl
     where
       go : (v l : Bool) → leb length (row .length) ≡ l
-          → pick v (leb (pick (v && l) length (row .length)) (row .length)) (eqb (pick (v && l) length (row .length)) (row .length)) ≡ true
+          → ifElse v (leb (ifElse (v && l) length (row .length)) (row .length)) (eqb (ifElse (v && l) length (row .length)) (row .length)) ≡ true
       go true true e = e
       go true false e = le-leb (row .length) (row .length) (omega arith)
       go false l e = eq-eqb (row .length) (row .length) refl
@@ -23,6 +23,6 @@ module _ (row : Row) where
   pub accepted-sent : (length : ℕ) → accepts row length ≡ true → sentLength row length ≡ length
   accepted-sent length = go (isVariable row)
     where
-      go : (v : Bool) → pick v (leb length (row .length)) (eqb length (row .length)) ≡ true → pick (v && leb length (row .length)) length (row .length) ≡ length
+      go : (v : Bool) → ifElse v (leb length (row .length)) (eqb length (row .length)) ≡ true → ifElse (v && leb length (row .length)) length (row .length) ≡ length
       go true e = rw e
       go false e = rw (eqb-true length (row .length) e)

@@ -5,11 +5,11 @@ use mathlib.Core.Bool.{Bool, true, false}
 use mathlib.Core.List.{List}
 use lib.ListN.{getD, set}
 use borrow.Author.Tests.{lt-ltb, le-ltb}
-use Rattle.plan.specs.declared.Lookup.{Lookup}
-use Rattle.plan.specs.declared.Row.{Row}
-use Rattle.node.specs.declared.Node.{Node}
-use Rattle.node.specs.declared.Reply.{Reply}
-use Rattle.node.specs.Sending.{requestStep}
+use Rattle.set_plan.specs.declared.Lookup.{Lookup}
+use Rattle.set_plan.specs.declared.Row.{Row}
+use Rattle.machine_node.specs.declared.Node.{Node}
+use Rattle.machine_node.specs.declared.Reply.{Reply}
+use Rattle.machine_node.specs.Sending.{requestStep}
 use Rattle.bus.specs.declared.Bus.{Bus}
 use Rattle.bus.specs.declared.Delivered.{Delivered}
 use Rattle.bus.specs.declared.Message.{Message}

@@ -4,18 +4,18 @@ use mathlib.Core.Path.{_≡_, refl, ap₂, sym, subst}
 use mathlib.Core.Bool.{Bool, true, false, not, _||_, and-eq-true-iff}
 use lib.Dec.{eqb}
 use borrow.Author.Tests.{eqb-true, not-true}
-use Rattle.folds.proofs.Choices.{by-test, no-way}
-use Rattle.machine.specs.declared.State.{State}
-use Rattle.machine.specs.State.{isNormal}
-use Rattle.plan.specs.declared.Lookup.{Lookup}
-use Rattle.plan.specs.declared.Times.{Times}
-use Rattle.node.specs.declared.Delay.{Delay}
-use Rattle.node.specs.declared.Node.{Node}
-use Rattle.node.specs.declared.Reply.{Reply}
-use Rattle.node.specs.Changes.{withQuiet, silent}
-use Rattle.node.specs.Sending.{inNormal, requestRow}
-use Rattle.node.specs.Ticks.{tickBy, normalBy, tickStep}
-use Rattle.node.specs.Waking.{pulseBy}
+use Rattle.base_lists.proofs.Choices.{by-test, no-way}
+use Rattle.machine_state.specs.declared.State.{State}
+use Rattle.machine_state.specs.State.{isNormal}
+use Rattle.set_plan.specs.declared.Lookup.{Lookup}
+use Rattle.set_plan.specs.declared.Times.{Times}
+use Rattle.machine_node.specs.declared.Delay.{Delay}
+use Rattle.machine_node.specs.declared.Node.{Node}
+use Rattle.machine_node.specs.declared.Reply.{Reply}
+use Rattle.machine_node.specs.Changes.{withQuiet, silent}
+use Rattle.machine_node.specs.Sending.{inNormal, requestRow}
+use Rattle.machine_node.specs.Ticks.{tickBy, normalBy, tickStep}
+use Rattle.machine_node.specs.Waking.{pulseBy}
 use Rattle.bus.specs.declared.Message.{Message}
 use Rattle.bus.specs.Pulses.{otherCalled, receive, receiveIf}
 use Rattle.bus.specs.Resting.{restsBy, rests, ignoresRow, ignores, untouched}

@@ -2,11 +2,11 @@
 use Prim.Native.Nat.{ℕ}
 use mathlib.Core.Path.{_≡_, ap, ap₂, sym, _∙_}
 use mathlib.Core.Bool.{Bool, false, _&&_}
-use Rattle.folds.specs.Fold.{pick}
-use Rattle.plan.specs.declared.Times.{Times}
-use Rattle.master.specs.declared.Reply.{Reply}
-use Rattle.master.specs.Clock.{clockOn, isOff}
-use Rattle.master.specs.Ticks.{tickStep}
+use Rattle.base_lists.specs.Bounded.{ifElse}
+use Rattle.set_plan.specs.declared.Times.{Times}
+use Rattle.machine_master.specs.declared.Reply.{Reply}
+use Rattle.machine_master.specs.Clock.{clockOn, isOff}
+use Rattle.machine_master.specs.Ticks.{tickStep}
 use Rattle.bus.specs.declared.Bus.{Bus}
 use Rattle.bus.specs.declared.Moved.{Moved}
 use Rattle.bus.specs.declared.Passed.{Passed}
@@ -29,5 +29,5 @@ module _ (sleeps : Bool) (t : Times) (count : ℕ) (bus : Bus) (w : World) {repl
   pub quiet-tick : called ≡ false → _≡_ {A = Moved} (record { world = before; refusal = reply .refusal; passed = passed }) (tickMove sleeps t count bus w)
   quiet-tick g = tick-gives (alone _ _ (sym e ∙ g))
     where
-      alone : (x : Bool) (heard : World) → x ≡ false → before ≡ pick x heard before
+      alone : (x : Bool) (heard : World) → x ≡ false → before ≡ ifElse x heard before
       alone x heard h = rw h

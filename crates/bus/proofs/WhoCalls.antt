@@ -4,8 +4,8 @@ use mathlib.Core.Path.{_≡_, refl}
 use mathlib.Core.Bool.{true}
 use native.Mathlib.Omega.{arith}
 use native.Mathlib.Numerals.{add-one}
-use Rattle.folds.proofs.Choices.{no-way}
-use Rattle.node.specs.declared.Command.{Command}
+use Rattle.base_lists.proofs.Choices.{no-way}
+use Rattle.machine_node.specs.declared.Command.{Command}
 use Rattle.bus.specs.declared.Callers.{Callers}
 use Rattle.bus.specs.Pulses.{withCaller, callersTo, anyCalled}
 

@@ -1,7 +1,7 @@
 pub mod Each
 pub mod Messages
 pub mod Moves
-pub mod Owners
+pub mod Applications
 pub mod Passed
 pub mod Pulses
 pub mod Range

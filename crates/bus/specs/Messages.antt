@@ -4,25 +4,25 @@ use mathlib.Core.Bool.{Bool, true, false, not, _&&_}
 use mathlib.Core.List.{List}
 use lib.Dec.{leb, ltb, eqb}
 use lib.ListN.{getD, set}
-use Rattle.folds.specs.Fold.{pick}
-use Rattle.machine.specs.declared.State.{State}
-use Rattle.machine.specs.State.{isNormal}
-use Rattle.plan.specs.declared.Lookup.{Lookup}
-use Rattle.plan.specs.declared.Plan.{Plan}
-use Rattle.plan.specs.declared.Row.{Row}
-use Rattle.plan.specs.Limits.{reqids, seqCounts}
-use Rattle.plan.specs.Answers.{isPolled, isVariable}
-use Rattle.plan.specs.Find.{findRow}
-use Rattle.node.specs.declared.Node.{Node}
-use Rattle.node.specs.declared.Command as NodeCommand
-use Rattle.node.specs.declared.Reply as NodeReply
-use Rattle.node.specs.Sending.{requestStep, sendAskStep}
-use Rattle.master.specs.declared.Answer.{Answer}
-use Rattle.master.specs.declared.Master.{Master}
-use Rattle.master.specs.declared.Command as MasterCommand
-use Rattle.master.specs.declared.Reply as MasterReply
-use Rattle.master.specs.Answers.{answerStep}
-use Rattle.master.specs.Sleeping.{sleepAskStep, sendResultStep}
+use Rattle.base_lists.specs.Bounded.{ifElse}
+use Rattle.machine_state.specs.declared.State.{State}
+use Rattle.machine_state.specs.State.{isNormal}
+use Rattle.set_plan.specs.declared.Lookup.{Lookup}
+use Rattle.set_plan.specs.declared.Plan.{Plan}
+use Rattle.set_plan.specs.declared.Row.{Row}
+use Rattle.set_plan.specs.Limits.{reqids, seqCounts}
+use Rattle.set_plan.specs.Answering.{isPolled, isVariable}
+use Rattle.set_plan.specs.Find.{findRow}
+use Rattle.machine_node.specs.declared.Node.{Node}
+use Rattle.machine_node.specs.declared.Command as NodeCommand
+use Rattle.machine_node.specs.declared.Reply as NodeReply
+use Rattle.machine_node.specs.Sending.{requestStep, sendAskStep}
+use Rattle.machine_master.specs.declared.Answer.{Answer}
+use Rattle.machine_master.specs.declared.Master.{Master}
+use Rattle.machine_master.specs.declared.Command as MasterCommand
+use Rattle.machine_master.specs.declared.Reply as MasterReply
+use Rattle.machine_master.specs.Answers.{answerStep}
+use Rattle.machine_master.specs.Sleeping.{sleepAskStep, sendResultStep}
 use Rattle.bus.specs.declared.Bus.{Bus}
 use Rattle.bus.specs.declared.Arrival.{Arrival}
 use Rattle.bus.specs.declared.Delivered.{Delivered}
@@ -31,7 +31,7 @@ use Rattle.bus.specs.declared.Message.{Message}
 use Rattle.bus.specs.declared.Moved.{Moved}
 use Rattle.bus.specs.declared.Passed.{Passed}
 use Rattle.bus.specs.declared.World.{World}
-use Rattle.bus.specs.Owners.{ofNode}
+use Rattle.bus.specs.Applications.{ofNode}
 use Rattle.bus.specs.Pulses.{reachAll}
 use Rattle.bus.specs.Passed.{nothing, answered, sending, slept}
 use Rattle.bus.specs.World.{nodeAt, withMaster, withNodes, stays}
@@ -44,11 +44,11 @@ fateRight Fate.Lost = true
 
 -- 15 for no such move; "Without clock no request, answer or sleep message moves", 16
 abbrev pub messageRefusal : ℕ → Fate → State → ℕ
-messageRefusal reqid fate master = pick (ltb reqid reqids) (pick (fateRight fate) (pick (isNormal master) 0 16) 15) 15
+messageRefusal reqid fate master = ifElse (ltb reqid reqids) (ifElse (fateRight fate) (ifElse (isNormal master) 0 16) 15) 15
 
 -- W-207, "an answer of a variable row may be sent with any length up to the row's"; a fixed row's is its own
 abbrev pub sentLength : Row → ℕ → ℕ
-sentLength row length = pick (isVariable row && leb length (row .length)) length (row .length)
+sentLength row length = ifElse (isVariable row && leb length (row .length)) length (row .length)
 
 -- "an answer reaches the master whole, damaged .. or not at all"
 abbrev pub carried : Fate → Row → NodeCommand.Command → Arrival
@@ -74,7 +74,7 @@ arrive m (Arrival.Answer row a) = answeredBy row a (answerStep (Lookup.Found row
 
 -- a publisher's reply goes on to the master: "The refusal .. is the acting or publishing machine's, else the master's"
 abbrev pub deliver : Row → Fate → NodeReply.Reply → Master → Delivered
-deliver row fate reply m = pick (not (eqb (reply .refusal) 0)) (unanswered m (reply .refusal)) (arrive m (carried fate row (reply .command)))
+deliver row fate reply m = ifElse (not (eqb (reply .refusal) 0)) (unanswered m (reply .refusal)) (arrive m (carried fate row (reply .command)))
 
 -- with the nodes as they are then
 abbrev pub deliveredIn : List Node → Delivered → Moved
@@ -90,7 +90,7 @@ requestBy count row bus w reply =
 -- "A request reaches any set of nodes"; "A master's row .. is heard and brings no answer"
 abbrev pub publish : ℕ → Row → Bus → World → Moved
 publish count row bus w =
-    pick (ltb (row .publisher) count && getD (bus .reached) (row .publisher) false)
+    ifElse (ltb (row .publisher) count && getD (bus .reached) (row .publisher) false)
     (requestBy count row bus w (requestStep (row .publisher) (Lookup.Found row) (nodeAt (w .nodes) (row .publisher))))
     (stays (withNodes (reachAll (Message.Request (Lookup.Found row)) (bus .reached) count (w .nodes)) w) 0)
 
@@ -100,7 +100,7 @@ publishFound count bus w Lookup.Missing = stays w 12
 publishFound count bus w (Lookup.Found row) = publish count row bus w
 
 abbrev pub judgedMessage : ℕ → World → Moved → Moved
-judgedMessage refusal w o = pick (not (eqb refusal 0)) (stays w refusal) o
+judgedMessage refusal w o = ifElse (not (eqb refusal 0)) (stays w refusal) o
 
 abbrev pub requestMove : Plan → ℕ → ℕ → Bus → World → Moved
 requestMove p count reqid bus w = judgedMessage (messageRefusal reqid (bus .fate) (w .master .state)) w (publishFound count bus w (findRow p reqid))
@@ -137,7 +137,7 @@ sleepAskMove sleeps nodecount w = sleepAskAfter w (sleepAskStep sleeps nodecount
 -- "it then awaits its result and reaches any set of nodes with the result"; "a refused `sent` reaches nobody"
 abbrev pub resultAfter : ℕ → Bool → Bus → World → MasterReply.Reply → Moved
 resultAfter count sent bus w reply =
-    pick (not (eqb (reply .refusal) 0)) (stays w (reply .refusal))
+    ifElse (not (eqb (reply .refusal) 0)) (stays w (reply .refusal))
     (record {
       world = record { master = reply .master; nodes = reachAll Message.SleepMessage (bus .reached) count (w .nodes) };
       refusal = 0;

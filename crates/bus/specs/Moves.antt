@@ -1,16 +1,16 @@
 -- A move on the bus.
 use lib.Dec.{eqb}
-use Rattle.folds.specs.Fold.{pick}
-use Rattle.plan.specs.declared.Plan.{Plan}
-use Rattle.plan.specs.Profile.{sleeps}
-use Rattle.plan.specs.Rules.{planRefusal}
+use Rattle.base_lists.specs.Bounded.{ifElse}
+use Rattle.set_plan.specs.declared.Plan.{Plan}
+use Rattle.set_plan.specs.Profile.{sleeps}
+use Rattle.set_plan.specs.Rules.{planRefusal}
 use Rattle.bus.specs.declared.Act.{Act}
 use Rattle.bus.specs.declared.Bus.{Bus}
 use Rattle.bus.specs.declared.Move.{Move}
 use Rattle.bus.specs.declared.Moved.{Moved}
 use Rattle.bus.specs.declared.World.{World}
 use Rattle.bus.specs.Messages.{requestMove, sendAskMove, sleepAskMove, sendResultMove}
-use Rattle.bus.specs.Owners.{nodeWakeAsk, masterWakeAsk, nodePermission, masterPermission}
+use Rattle.bus.specs.Applications.{nodeWakeAsk, masterWakeAsk, nodePermission, masterPermission}
 use Rattle.bus.specs.Range.{worldInRange}
 use Rattle.bus.specs.Ticks.{tickMove}
 use Rattle.bus.specs.World.{nodesUsed, stays}
@@ -34,6 +34,6 @@ worldAct p w m = actBy p w (m .bus) (m .act)
 -- "plan 4 to 8 first, then 11", and 3 "before 4"
 abbrev pub worldStep : Plan → World → Move → Moved
 worldStep p w m =
-    pick (eqb (planRefusal p) 0)
-    (pick (worldInRange (sleeps p) (p .nodecount) (p .times) w) (worldAct p w m) (stays w 11))
+    ifElse (eqb (planRefusal p) 0)
+    (ifElse (worldInRange (sleeps p) (p .nodecount) (p .times) w) (worldAct p w m) (stays w 11))
     (stays w (planRefusal p))

@@ -4,12 +4,12 @@ use mathlib.Core.Bool.{Bool, true, false, not}
 use mathlib.Core.List.{List}
 use lib.Dec.{eqb}
 use lib.ListN.{getD}
-use Rattle.folds.specs.Fold.{pick}
-use Rattle.node.specs.declared.Node.{Node}
-use Rattle.node.specs.declared.Command.{Command}
-use Rattle.node.specs.Waking.{pulseStep}
-use Rattle.node.specs.Sending.{sleepMessageStep, requestStep}
-use Rattle.master.specs.Waking.{wakeUpStep}
+use Rattle.base_lists.specs.Bounded.{ifElse}
+use Rattle.machine_node.specs.declared.Node.{Node}
+use Rattle.machine_node.specs.declared.Command.{Command}
+use Rattle.machine_node.specs.Waking.{pulseStep}
+use Rattle.machine_node.specs.Sending.{sleepMessageStep, requestStep}
+use Rattle.machine_master.specs.Waking.{wakeUpStep}
 use Rattle.bus.specs.declared.Bus.{Bus}
 use Rattle.bus.specs.declared.Callers.{Callers}
 use Rattle.bus.specs.declared.Message.{Message}
@@ -46,12 +46,12 @@ otherCalled Callers.Several me = true
 
 -- what a message that reaches node `me` does there; a master sends a sleep message only where machines sleep
 abbrev pub receive : Message → ℕ → Node → Node
-receive (Message.Pulse callers) me n = pick (otherCalled callers me) (pulseStep n .node) n
+receive (Message.Pulse callers) me n = ifElse (otherCalled callers me) (pulseStep n .node) n
 receive (Message.Request row) me n = requestStep me row n .node
 receive Message.SleepMessage me n = sleepMessageStep true n .node
 
 abbrev pub receiveIf : Bool → Message → ℕ → Node → Node
-receiveIf reached message me n = pick reached (receive message me n) n
+receiveIf reached message me n = ifElse reached (receive message me n) n
 
 -- "reaches any set of nodes"
 abbrev pub reachAll : Message → List Bool → ℕ → List Node → List Node
@@ -60,8 +60,8 @@ reachAll message reached count nodes = eachTo (λ k n. receiveIf (getD reached k
 -- "then pulses reach the others or are lost"
 abbrev pub spread : ℕ → Callers → Bus → World → World
 spread count callers bus w =
-    pick (anyCalled callers)
-    (pick (bus .master)
+    ifElse (anyCalled callers)
+    (ifElse (bus .master)
     (record { master = wakeUpStep (w .master) .master; nodes = reachAll (Message.Pulse callers) (bus .hearing) count (w .nodes) })
     (record { master = w .master; nodes = reachAll (Message.Pulse callers) (bus .hearing) count (w .nodes) }))
     w

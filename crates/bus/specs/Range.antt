@@ -2,11 +2,11 @@
 use Prim.Native.Nat.{ℕ}
 use mathlib.Core.Bool.{Bool, _&&_}
 use mathlib.Core.List.{List}
-use Rattle.folds.specs.Fold.{allTo}
-use Rattle.plan.specs.declared.Times.{Times}
-use Rattle.node.specs.declared.Node.{Node}
-use Rattle.node.specs.Range as NodeRange
-use Rattle.master.specs.Range as MasterRange
+use Rattle.base_lists.specs.Bounded.{allTo}
+use Rattle.set_plan.specs.declared.Times.{Times}
+use Rattle.machine_node.specs.declared.Node.{Node}
+use Rattle.machine_node.specs.Range as NodeRange
+use Rattle.machine_master.specs.Range as MasterRange
 use Rattle.bus.specs.declared.World.{World}
 use Rattle.bus.specs.World.{nodesUsed, nodeAt}
 

@@ -2,11 +2,11 @@
 use Prim.Native.Nat.{ℕ}
 use mathlib.Core.Bool.{Bool, true, false, not, _&&_, _||_}
 use lib.Dec.{eqb}
-use Rattle.machine.specs.declared.State.{State}
-use Rattle.machine.specs.State.{isNormal}
-use Rattle.plan.specs.declared.Lookup.{Lookup}
-use Rattle.node.specs.declared.Delay.{Delay}
-use Rattle.node.specs.declared.Node.{Node}
+use Rattle.machine_state.specs.declared.State.{State}
+use Rattle.machine_state.specs.State.{isNormal}
+use Rattle.set_plan.specs.declared.Lookup.{Lookup}
+use Rattle.machine_node.specs.declared.Delay.{Delay}
+use Rattle.machine_node.specs.declared.Node.{Node}
 use Rattle.bus.specs.declared.Message.{Message}
 
 -- in Normal with clock and nothing to clear or to count, or asleep without clock

@@ -2,12 +2,12 @@
 use Prim.Native.Nat.{ℕ}
 use mathlib.Core.Bool.{Bool, _&&_}
 use mathlib.Core.List.{List}
-use Rattle.plan.specs.declared.Times.{Times}
-use Rattle.node.specs.declared.Node.{Node}
-use Rattle.node.specs.Ticks as NodeTicks
-use Rattle.master.specs.declared.Reply.{Reply}
-use Rattle.master.specs.Clock.{clockOn, isOff}
-use Rattle.master.specs.Ticks as MasterTicks
+use Rattle.set_plan.specs.declared.Times.{Times}
+use Rattle.machine_node.specs.declared.Node.{Node}
+use Rattle.machine_node.specs.Ticks as NodeTicks
+use Rattle.machine_master.specs.declared.Reply.{Reply}
+use Rattle.machine_master.specs.Clock.{clockOn, isOff}
+use Rattle.machine_master.specs.Ticks as MasterTicks
 use Rattle.bus.specs.declared.Bus.{Bus}
 use Rattle.bus.specs.declared.Callers.{Callers}
 use Rattle.bus.specs.declared.Moved.{Moved}

@@ -3,13 +3,13 @@ use Prim.Native.Nat.{ℕ, min}
 use mathlib.Core.Bool.{Bool, false}
 use mathlib.Core.List.{List, []}
 use lib.ListN.{getD, set, replicate}
-use Rattle.machine.specs.declared.State.{State}
-use Rattle.plan.specs.Limits.{maxNodes}
-use Rattle.node.specs.declared.Delay.{Delay}
-use Rattle.node.specs.declared.Node.{Node}
-use Rattle.node.specs.Changes as NodeChanges
-use Rattle.master.specs.declared.Master.{Master}
-use Rattle.master.specs.Changes as MasterChanges
+use Rattle.machine_state.specs.declared.State.{State}
+use Rattle.set_plan.specs.Limits.{maxNodes}
+use Rattle.machine_node.specs.declared.Delay.{Delay}
+use Rattle.machine_node.specs.declared.Node.{Node}
+use Rattle.machine_node.specs.Changes as NodeChanges
+use Rattle.machine_master.specs.declared.Master.{Master}
+use Rattle.machine_master.specs.Changes as MasterChanges
 use Rattle.bus.specs.declared.World.{World}
 use Rattle.bus.specs.declared.Moved.{Moved}
 use Rattle.bus.specs.Passed.{nothing}

@@ -2,20 +2,20 @@
 ghost use mathlib.Core.Path.{_≡_};
 ghost use Rattle.bus.specs.World.{powerOn, stays, nodesUsed};
 ghost use Rattle.bus.specs.Moves.{worldAct, worldStep};
-use master::Answer;
-use master::Master;
-use node::Node;
-use plan::Lookup;
-use plan::Plan;
-use plan::Row;
-use plan::plan_refusal;
+use machine_master::Answer;
+use machine_master::Master;
+use machine_node::Node;
+use set_plan::Lookup;
+use set_plan::Plan;
+use set_plan::Row;
+use set_plan::plan_refusal;
 
-mod facts;
+mod applications;
 mod messages;
-mod owners;
 mod pulses;
 mod range;
 mod ticks;
+mod what_passed;
 
 // All machines of a plan; nodes from its number on stay as they are.
 pub struct World {
@@ -76,8 +76,8 @@ pub struct Move {
     pub bus: Bus,
 }
 
-// An application's word on sleeping.
-pub enum Word {
+// A permission that an application gave or took back.
+pub enum PermissionChange {
     Nobody,
     Master(bool),
     Node { node: u8, permitted: bool },
@@ -106,7 +106,7 @@ pub struct Passed {
     pub asked: bool,
     // a wake-up pulse reached the master, or its own application asked it to wake
     pub woken: bool,
-    pub word: Word,
+    pub permission: PermissionChange,
     pub arrival: Arrival,
     // a sleep message's ask was accepted
     pub sending: bool,

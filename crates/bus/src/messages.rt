@@ -1,7 +1,7 @@
 // Requests, answers and the sleep message.
 ghost use mathlib.Core.Path.{_≡_};
 ghost use Prim.Native.Nat.{_≤_, _<_};
-ghost use Rattle.plan.specs.Limits.{maxNodes};
+ghost use Rattle.set_plan.specs.Limits.{maxNodes};
 ghost use Rattle.bus.specs.Messages.{fateRight, messageRefusal, sentLength, carried, unanswered, deliver, publish, requestMove, sendRow, sendAskBy, sendAskMove, sendingBy, sleepAskMove, sendResultMove};
 use crate::Arrival;
 use crate::Bus;
@@ -13,15 +13,15 @@ use crate::Passed;
 use crate::World;
 use crate::pulses::reach_all;
 use crate::stays;
-use machine::State;
-use machine::is_normal;
-use master::Answer;
-use master::Master;
-use node::Command;
-use node::Reply;
-use plan::Lookup;
-use plan::Plan;
-use plan::Row;
+use machine_master::Answer;
+use machine_master::Master;
+use machine_node::Command;
+use machine_node::Reply;
+use machine_state::State;
+use machine_state::is_normal;
+use set_plan::Lookup;
+use set_plan::Plan;
+use set_plan::Row;
 
 fn fate_right(fate: Fate) -> bool
     ensures { λ r. ⌜ r ≡ fateRight fate ⌝ }
@@ -130,14 +130,14 @@ fn deliver(master: Master, row: Row, fate: Fate, reply: Reply) -> Delivered
     }
 }
 
-fn sending_by(command: master::Command) -> Passed
+fn sending_by(command: machine_master::Command) -> Passed
     ensures { λ r. ⌜ r ≡ sendingBy command ⌝ }
 {
     match command {
-        master::Command::Nothing => Passed::nothing(),
-        master::Command::ClockOn => Passed::nothing(),
-        master::Command::ClockOff => Passed::nothing(),
-        master::Command::SleepMessage => Passed::sending(),
+        machine_master::Command::Nothing => Passed::nothing(),
+        machine_master::Command::ClockOn => Passed::nothing(),
+        machine_master::Command::ClockOff => Passed::nothing(),
+        machine_master::Command::SleepMessage => Passed::sending(),
     }
 }
 
@@ -187,7 +187,7 @@ impl World {
         if !(refusal == 0) {
             return stays(self, refusal);
         }
-        match plan::find_row(plan, reqid) {
+        match set_plan::find_row(plan, reqid) {
             Lookup::Missing => stays(self, 12),
             Lookup::Found(row) => self.publish(count, row, bus),
         }
@@ -242,7 +242,7 @@ impl World {
             self.send_found(
                 node,
                 plan.is_polled(node),
-                plan::find_row(plan, reqid),
+                set_plan::find_row(plan, reqid),
                 fate,
             )
         } else {

@@ -1,18 +1,18 @@
 // Who sends a wake-up pulse in a move, and messages that reach a set of nodes.
 ghost use mathlib.Core.Path.{_≡_};
 ghost use Prim.Native.Nat.{_≤_};
-ghost use Rattle.plan.specs.Limits.{maxNodes};
+ghost use Rattle.set_plan.specs.Limits.{maxNodes};
 ghost use Rattle.bus.specs.Pulses.{withCaller, anyCalled, otherCalled, receive, reachAll, spread};
 ghost use Rattle.bus.specs.Resting.{ignoresRow, ignores, untouched};
 use crate::Bus;
 use crate::Callers;
 use crate::Message;
 use crate::World;
-use machine::is_normal;
-use node::Command;
-use node::Node;
-use plan::Lookup;
-use plan::Plan;
+use machine_node::Command;
+use machine_node::Node;
+use machine_state::is_normal;
+use set_plan::Lookup;
+use set_plan::Plan;
 
 pub(crate) fn with_caller(callers: Callers, node: u8, command: Command) -> Callers
     ensures { λ r. ⌜ r ≡ withCaller callers node command ⌝ }

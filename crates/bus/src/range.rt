@@ -1,14 +1,14 @@
 // The limits of all machines' fields.
 ghost use mathlib.Core.Path.{_≡_};
 ghost use Prim.Native.Nat.{_≤_};
-ghost use Rattle.folds.specs.Fold.{allTo};
-ghost use Rattle.plan.specs.Limits.{maxNodes};
+ghost use Rattle.base_lists.specs.Bounded.{allTo};
+ghost use Rattle.set_plan.specs.Limits.{maxNodes};
 ghost use Rattle.bus.specs.Range.{nodeInRange, worldInRange};
 use crate::World;
 use crate::nodes_used;
-use node::Node;
-use plan::Plan;
-use plan::Times;
+use machine_node::Node;
+use set_plan::Plan;
+use set_plan::Times;
 
 fn nodes_in_range(nodes: [Node; Plan::NODES], sleeps: bool, count: u8, times: Times) -> bool
     requires { ⌜ count ≤ maxNodes ⌝ }

@@ -1,8 +1,8 @@
 // A tick of all machines.
 ghost use mathlib.Core.Path.{_≡_};
 ghost use Prim.Native.Nat.{_≤_};
-ghost use Rattle.master.specs.Clock.{isOff};
-ghost use Rattle.plan.specs.Limits.{maxNodes};
+ghost use Rattle.machine_master.specs.Clock.{isOff};
+ghost use Rattle.set_plan.specs.Limits.{maxNodes};
 ghost use Rattle.bus.specs.Resting.{rests};
 ghost use Rattle.bus.specs.Ticks.{tickNodes, tickMove};
 use crate::Bus;
@@ -13,13 +13,13 @@ use crate::Ticked;
 use crate::World;
 use crate::pulses::any_called;
 use crate::pulses::with_caller;
-use machine::State;
-use machine::is_normal;
-use master::Command;
-use node::Delay;
-use node::Node;
-use plan::Plan;
-use plan::Times;
+use machine_master::Command;
+use machine_node::Delay;
+use machine_node::Node;
+use machine_state::State;
+use machine_state::is_normal;
+use set_plan::Plan;
+use set_plan::Times;
 
 fn is_off(command: Command) -> bool
     ensures { λ r. ⌜ r ≡ isOff command ⌝ }

@@ -7,32 +7,32 @@ use mathlib.Core.List.{List}
 use lib.ListN.{replicate}
 use lib.Dec.{eqb, leb, ltb}
 use borrow.Author.Tests.{eqb-true}
-use Rattle.folds.proofs.Choices.{by-test}
-use Rattle.blocks.specs.Bytes.{byte}
-use Rattle.machine.specs.Counts.{countsBelow}
-use Rattle.plan.specs.declared.Times.{Times}
-use Rattle.plan.specs.declared.Plan.{Plan}
-use Rattle.plan.specs.Record.{unusedZero}
-use Rattle.plan.specs.Profile.{sleeps}
-use Rattle.plan.specs.Rules.{planRefusal}
-use Rattle.plan_bytes.specs.Record.{recordOf, recordBytes}
-use Rattle.plan_bytes.proofs.Records.{zero-bytes}
-use Rattle.reader.specs.declared.ReadAnswer.{ReadAnswer}
-use Rattle.reader.specs.Read.{setRefusal, readSet}
-use Rattle.reader.proofs.Answers.{read-record-back}
-use Rattle.writer.specs.Write.{writeSet}
-use Rattle.writer.proofs.RoundTrip.{read-of-written, written-of-read}
-use Rattle.master.specs.declared.Reply.{Reply}
-use Rattle.master.specs.Range as MasterRange
-use Rattle.master.specs.Step as MasterStep
-use Rattle.master.proofs.Refusals as MasterRefusals
-use Rattle.master_bytes.specs.States.{isMaster, masterOf}
-use Rattle.master_bytes.specs.Events as MasterEvents
-use Rattle.master_bytes.proofs.StateTrips.{none-in-range}
-use Rattle.node.specs.Range as NodeRange
-use Rattle.node.specs.Step as NodeStep
-use Rattle.node_bytes.specs.States.{isNode, nodeOf, noNode}
-use Rattle.node_bytes.specs.Events as NodeEvents
+use Rattle.base_lists.proofs.Choices.{by-test}
+use Rattle.base_bytes.specs.Bytes.{byte}
+use Rattle.machine_state.specs.Counts.{countsBelow}
+use Rattle.set_plan.specs.declared.Times.{Times}
+use Rattle.set_plan.specs.declared.Plan.{Plan}
+use Rattle.set_plan.specs.Record.{unusedZero}
+use Rattle.set_plan.specs.Profile.{sleeps}
+use Rattle.set_plan.specs.Rules.{planRefusal}
+use Rattle.set_record.specs.Record.{recordOf, recordBytes}
+use Rattle.set_record.proofs.Records.{zero-bytes}
+use Rattle.set_reader.specs.declared.ReadAnswer.{ReadAnswer}
+use Rattle.set_reader.specs.Read.{setRefusal, readSet}
+use Rattle.set_reader.proofs.ReadResults.{read-record-back}
+use Rattle.set_writer.specs.Write.{writeSet}
+use Rattle.set_writer.proofs.RoundTrip.{read-of-written, written-of-read}
+use Rattle.machine_master.specs.declared.Reply.{Reply}
+use Rattle.machine_master.specs.Range as MasterRange
+use Rattle.machine_master.specs.Step as MasterStep
+use Rattle.machine_master.proofs.Refusals as MasterRefusals
+use Rattle.packed_master.specs.States.{isMaster, masterOf}
+use Rattle.packed_master.specs.Events as MasterEvents
+use Rattle.packed_master.proofs.StateTrips.{none-in-range}
+use Rattle.machine_node.specs.Range as NodeRange
+use Rattle.machine_node.specs.Step as NodeStep
+use Rattle.packed_node.specs.States.{isNode, nodeOf, noNode}
+use Rattle.packed_node.specs.Events as NodeEvents
 use Rattle.cxpi.specs.MasterCalls.{masterReply}
 
 -- "bytes that are no state give 11"

@@ -7,16 +7,16 @@ use lib.Seq.{sets}
 use lib.Dec.{eqb, leb}
 use native.Mathlib.Omega.{arith}
 use borrow.Author.Tests.{eq-eqb, ne-eqb}
-use Rattle.folds.proofs.Choices.{by-test}
-use Rattle.plan.specs.declared.Plan.{Plan}
-use Rattle.writer.specs.declared.WriteAnswer.{WriteAnswer}
-use Rattle.writer.specs.Write.{setLength, writeRefusal, writeAnswer}
-use Rattle.node.specs.declared.Reply as NodeReply
-use Rattle.master.specs.declared.Reply as MasterReply
-use Rattle.master_bytes.specs.States.{masterBytes}
-use Rattle.master_bytes.specs.Replies as MasterReplies
-use Rattle.node_bytes.specs.States.{nodeBytes}
-use Rattle.node_bytes.specs.Replies as NodeReplies
+use Rattle.base_lists.proofs.Choices.{by-test}
+use Rattle.set_plan.specs.declared.Plan.{Plan}
+use Rattle.set_writer.specs.declared.WriteAnswer.{WriteAnswer}
+use Rattle.set_writer.specs.Write.{setLength, writeRefusal, writeAnswer}
+use Rattle.machine_node.specs.declared.Reply as NodeReply
+use Rattle.machine_master.specs.declared.Reply as MasterReply
+use Rattle.packed_master.specs.States.{masterBytes}
+use Rattle.packed_master.specs.Replies as MasterReplies
+use Rattle.packed_node.specs.States.{nodeBytes}
+use Rattle.packed_node.specs.Replies as NodeReplies
 use Rattle.cxpi.specs.MasterCalls.{changesState, masterLeaves, masterReplies}
 use Rattle.cxpi.specs.NodeCalls.{nodeLeaves, nodeReplies}
 

@@ -8,29 +8,29 @@ use lib.Seq.{sets, sets-eq}
 use lib.Dec.{eqb}
 use native.Mathlib.Omega.{arith}
 use borrow.Author.Tests.{ne-eqb, le-ltb, eqb-false}
-use Rattle.folds.specs.FirstBroken.{firstBroken}
-use Rattle.plan.specs.declared.Plan.{Plan}
-use Rattle.plan.specs.Profile.{profileRight, sleeps}
-use Rattle.plan.specs.Rules.{revisionRight, timesRight, nodesRight, rowsRight, allPublish, planRefusal}
-use Rattle.plan_bytes.specs.Record.{recordOf}
-use Rattle.master.specs.declared.Master.{Master}
-use Rattle.master.specs.declared.Reply as MasterReply
-use Rattle.master.specs.Changes as MasterChanges
-use Rattle.master.specs.Step.{masterStep}
-use Rattle.master.proofs.Places as MasterPlaces
-use Rattle.master.proofs.Refusals as MasterRefusals
-use Rattle.master_bytes.specs.Events as MasterEvents
-use Rattle.master_bytes.specs.States.{masterBytes}
-use Rattle.master_bytes.proofs.StateTrips as MasterTrips
-use Rattle.node.specs.declared.Node.{Node}
-use Rattle.node.specs.declared.Reply as NodeReply
-use Rattle.node.specs.Changes as NodeChanges
-use Rattle.node.specs.Step.{nodeStep}
-use Rattle.node.proofs.Places as NodePlaces
-use Rattle.node.proofs.Refusals as NodeRefusals
-use Rattle.node_bytes.specs.Events as NodeEvents
-use Rattle.node_bytes.specs.States.{nodeBytes}
-use Rattle.node_bytes.proofs.StateTrips as NodeTrips
+use Rattle.base_lists.specs.FirstBroken.{firstBroken}
+use Rattle.set_plan.specs.declared.Plan.{Plan}
+use Rattle.set_plan.specs.Profile.{profileRight, sleeps}
+use Rattle.set_plan.specs.Rules.{revisionRight, timesRight, nodesRight, rowsRight, allPublish, planRefusal}
+use Rattle.set_record.specs.Record.{recordOf}
+use Rattle.machine_master.specs.declared.Master.{Master}
+use Rattle.machine_master.specs.declared.Reply as MasterReply
+use Rattle.machine_master.specs.Changes as MasterChanges
+use Rattle.machine_master.specs.Step.{masterStep}
+use Rattle.machine_master.proofs.TableLengths as MasterPlaces
+use Rattle.machine_master.proofs.Refusals as MasterRefusals
+use Rattle.packed_master.specs.Events as MasterEvents
+use Rattle.packed_master.specs.States.{masterBytes}
+use Rattle.packed_master.proofs.StateTrips as MasterTrips
+use Rattle.machine_node.specs.declared.Node.{Node}
+use Rattle.machine_node.specs.declared.Reply as NodeReply
+use Rattle.machine_node.specs.Changes as NodeChanges
+use Rattle.machine_node.specs.Step.{nodeStep}
+use Rattle.machine_node.proofs.TableLengths as NodePlaces
+use Rattle.machine_node.proofs.Refusals as NodeRefusals
+use Rattle.packed_node.specs.Events as NodeEvents
+use Rattle.packed_node.specs.States.{nodeBytes}
+use Rattle.packed_node.proofs.StateTrips as NodeTrips
 use Rattle.cxpi.specs.MasterCalls.{masterReply, changesState, masterLeaves}
 use Rattle.cxpi.specs.NodeCalls.{nodeReply, nodeLeaves}
 use Rattle.cxpi.specs.Chains.{masterCalls, nodeCalls, masterRun, nodeRun}

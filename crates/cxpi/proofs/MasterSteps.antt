@@ -6,25 +6,25 @@ use mathlib.Core.List.{List}
 use lib.ListN.{length, getD}
 use native.Mathlib.Omega.{arith}
 use borrow.Author.Tests.{eq-eqb, ne-eqb, le-ltb, lt-ltb}
-use Rattle.folds.proofs.Choices.{no-way}
-use Rattle.folds.proofs.Rules.{number-only}
-use Rattle.blocks.specs.Bytes.{byte}
-use Rattle.plan.specs.declared.Plan.{Plan}
-use Rattle.plan.specs.Profile.{sleeps}
-use Rattle.plan.specs.Rules.{planRules, planRefusal}
-use Rattle.plan_bytes.specs.Record.{recordOf}
-use Rattle.master.specs.declared.Command.{Command}
-use Rattle.master.specs.declared.Event.{Event}
-use Rattle.master.specs.declared.Reply.{Reply}
-use Rattle.master.specs.Range.{inRange}
-use Rattle.master.specs.Step.{rowAsked, stepInRange, stepUnder}
-use Rattle.master_bytes.specs.Replies.{replied}
-use Rattle.master_bytes.specs.States.{masterOf}
-use Rattle.master_bytes.specs.Events.{eventOf}
-use Rattle.master_bytes.proofs.StateTrips.{range-long, range-packed}
-use Rattle.master_in_place.specs.declared.Outcome.{Outcome}
-use Rattle.master_in_place.specs.InPlace.{outcome, leaves}
-use Rattle.master_in_place.proofs.Outcomes.{written, done, left}
+use Rattle.base_lists.proofs.Choices.{no-way}
+use Rattle.base_lists.proofs.Rules.{number-only}
+use Rattle.base_bytes.specs.Bytes.{byte}
+use Rattle.set_plan.specs.declared.Plan.{Plan}
+use Rattle.set_plan.specs.Profile.{sleeps}
+use Rattle.set_plan.specs.Rules.{planRules, planRefusal}
+use Rattle.set_record.specs.Record.{recordOf}
+use Rattle.machine_master.specs.declared.Command.{Command}
+use Rattle.machine_master.specs.declared.Event.{Event}
+use Rattle.machine_master.specs.declared.Reply.{Reply}
+use Rattle.machine_master.specs.Range.{inRange}
+use Rattle.machine_master.specs.Step.{rowAsked, stepInRange, stepUnder}
+use Rattle.packed_master.specs.Replies.{replied}
+use Rattle.packed_master.specs.States.{masterOf}
+use Rattle.packed_master.specs.Events.{eventOf}
+use Rattle.packed_master.proofs.StateTrips.{range-long, range-packed}
+use Rattle.packed_master_steps.specs.declared.Outcome.{Outcome}
+use Rattle.packed_master_steps.specs.InPlace.{outcome, leaves}
+use Rattle.packed_master_steps.proofs.Outcomes.{written, done, left}
 use Rattle.cxpi.specs.MasterCalls.{masterReply, changesState, masterLeaves, masterReplies}
 
 -- what a step gives of a reply: the number, the state's bytes and the reply's

@@ -1,13 +1,13 @@
 -- Calls one after the other on one state, and the machine's steps that they are.
 use Prim.Native.Nat.{ℕ}
 use mathlib.Core.List.{List, [], _∷_}
-use Rattle.plan.specs.declared.Plan.{Plan}
-use Rattle.master.specs.declared.Master.{Master}
-use Rattle.master.specs.declared.Event as MasterEvent
-use Rattle.master.specs.Step.{masterStep}
-use Rattle.node.specs.declared.Node.{Node}
-use Rattle.node.specs.declared.Event as NodeEvent
-use Rattle.node.specs.Step.{nodeStep}
+use Rattle.set_plan.specs.declared.Plan.{Plan}
+use Rattle.machine_master.specs.declared.Master.{Master}
+use Rattle.machine_master.specs.declared.Event as MasterEvent
+use Rattle.machine_master.specs.Step.{masterStep}
+use Rattle.machine_node.specs.declared.Node.{Node}
+use Rattle.machine_node.specs.declared.Event as NodeEvent
+use Rattle.machine_node.specs.Step.{nodeStep}
 use Rattle.cxpi.specs.MasterCalls.{masterReply, masterLeaves}
 use Rattle.cxpi.specs.NodeCalls.{nodeReply, nodeLeaves}
 

@@ -3,16 +3,16 @@ use Prim.Native.Nat.{ℕ}
 use mathlib.Core.List.{List}
 use lib.ListN.{length}
 use lib.Dec.{eqb}
-use Rattle.folds.specs.Fold.{pick}
-use Rattle.node_configuration.specs.declared.Reply.{Reply}
-use Rattle.node_configuration.specs.Places.{identityLength}
-use Rattle.node_configuration.specs.Identity.{identityOf}
-use Rattle.node_configuration.specs.Answers.{refuse, configured, answered}
+use Rattle.base_lists.specs.Bounded.{ifElse}
+use Rattle.machine_node_configuration.specs.declared.Reply.{Reply}
+use Rattle.machine_node_configuration.specs.Offsets.{identityLength}
+use Rattle.machine_node_configuration.specs.Identity.{identityOf}
+use Rattle.machine_node_configuration.specs.Responses.{refuse, configured, answered}
 
 -- 11 for an identity of another length, before the rest
 abbrev pub configureReply : List ℕ → ℕ → List ℕ → ℕ → Reply
 configureReply identity address request room =
-    pick (eqb (length identity) identityLength) (configured (identityOf identity) address request room) (refuse address 11)
+    ifElse (eqb (length identity) identityLength) (configured (identityOf identity) address request room) (refuse address 11)
 
 abbrev pub configureLeaves : List ℕ → List ℕ → List ℕ → List ℕ
-configureLeaves identity request answer = pick (eqb (length identity) identityLength) (answered (identityOf identity) request answer) answer
+configureLeaves identity request answer = ifElse (eqb (length identity) identityLength) (answered (identityOf identity) request answer) answer

@@ -2,10 +2,10 @@
 use Prim.Native.Nat.{ℕ}
 use mathlib.Core.List.{List}
 use lib.Dec.{ltb, eqb}
-use Rattle.folds.specs.Fold.{pick}
-use Rattle.plan.specs.Rules.{planRefusal}
-use Rattle.plan_bytes.specs.Record.{recordOf}
+use Rattle.base_lists.specs.Bounded.{ifElse}
+use Rattle.set_plan.specs.Rules.{planRefusal}
+use Rattle.set_record.specs.Record.{recordOf}
 
 -- W-206, "power-on needs the plan .. (its refusals first, then 10)": 10 for a state buffer with less room than a state needs
 abbrev pub startRefusal : ℕ → List ℕ → ℕ → ℕ
-startRefusal needed plan room = pick (eqb (planRefusal (recordOf plan)) 0) (pick (ltb room needed) 10 0) (planRefusal (recordOf plan))
+startRefusal needed plan room = ifElse (eqb (planRefusal (recordOf plan)) 0) (ifElse (ltb room needed) 10 0) (planRefusal (recordOf plan))

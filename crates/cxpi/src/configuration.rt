@@ -2,8 +2,8 @@
 ghost use mathlib.Core.Path.{_≡_};
 ghost use lib.ListN.{length};
 ghost use Rattle.cxpi.specs.ConfigurationCalls.{configureReply, configureLeaves};
-use node_configuration::configure;
-use node_configuration::identity_of;
+use machine_node_configuration::configure;
+use machine_node_configuration::identity_of;
 
 #[no_mangle]
 pub extern "C" fn cxpi_node_configure(
@@ -18,7 +18,7 @@ pub extern "C" fn cxpi_node_configure(
         × (now (answer .exit) ≡ configureLeaves (now (identity .entry)) (now (request .entry)) (now (answer .entry)))
         × (now (written .exit) ≡ configureReply (now (identity .entry)) (now (address .entry)) (now (request .entry)) (length (now (answer .entry))) .length) ⌝ }
 {
-    if identity.len() != node_configuration::IDENTITY_LENGTH {
+    if identity.len() != machine_node_configuration::IDENTITY_LENGTH {
         *written = 0;
         return 11;
     }

@@ -1,37 +1,37 @@
 // Calls on the master.
 ghost use mathlib.Core.Path.{_≡_};
 ghost use lib.ListN.{length};
-ghost use Rattle.plan.specs.Rules.{planRefusal};
-ghost use Rattle.plan_bytes.specs.Record.{recordOf};
-ghost use Rattle.master.specs.declared.Command.{Command};
-ghost use Rattle.master.specs.Step.{stepUnder};
-ghost use Rattle.master_bytes.specs.Places.{masterLength};
-ghost use Rattle.master_bytes.specs.Replies.{replied};
-ghost use Rattle.master_bytes.specs.States.{masterOf};
+ghost use Rattle.set_plan.specs.Rules.{planRefusal};
+ghost use Rattle.set_record.specs.Record.{recordOf};
+ghost use Rattle.machine_master.specs.declared.Command.{Command};
+ghost use Rattle.machine_master.specs.Step.{stepUnder};
+ghost use Rattle.packed_master.specs.Offsets.{masterLength};
+ghost use Rattle.packed_master.specs.Replies.{replied};
+ghost use Rattle.packed_master.specs.States.{masterOf};
 ghost use Rattle.cxpi.specs.PowerOn.{startRefusal};
 ghost use Rattle.cxpi.specs.MasterCalls.{masterOn, masterReply, changesState, masterLeaves, masterReplies};
 use crate::power_on::start_refusal;
-use master::Command;
-use master::Event;
-use master::Reply;
-use master_bytes::event_of;
-use master_bytes::master_of;
-use master_bytes::put_master;
-use master_bytes::put_power_on;
-use master_bytes::put_reply;
-use master_bytes::row_for;
-use master_in_place::Outcome;
-use master_in_place::step_in_place;
+use machine_master::Command;
+use machine_master::Event;
+use machine_master::Reply;
+use packed_master::event_of;
+use packed_master::master_of;
+use packed_master::put_master;
+use packed_master::put_power_on;
+use packed_master::put_reply;
+use packed_master::row_for;
+use packed_master_steps::Outcome;
+use packed_master_steps::step_in_place;
 
 #[no_mangle]
 pub extern "C" fn cxpi_master_power_on(plan: &[u8], state: &mut [u8]) -> u32
     ensures { λ r. ⌜ (r ≡ startRefusal masterLength (now (plan .entry)) (length (now (state .entry)))) × (now (state .exit) ≡ masterOn (now (plan .entry)) (now (state .entry))) ⌝ }
 {
-    let refusal = start_refusal(master_bytes::LENGTH, plan, state.len());
+    let refusal = start_refusal(packed_master::LENGTH, plan, state.len());
     if refusal != 0 {
         return refusal as u32;
     }
-    put_power_on(state, plan_bytes::sleeps(plan));
+    put_power_on(state, set_record::sleeps(plan));
     0
 }
 
@@ -73,13 +73,13 @@ fn step_under(plan: &[u8], state: &mut [u8], event: Event, reply: &mut [u8]) -> 
         × (now (reply .exit) ≡ masterReplies (stepUnder (recordOf (now (plan .entry))) (masterOf (now (state .entry))) event) (now (reply .entry))) ⌝ }
 {
     // No state. The compiler, told the length, spares the tests of each byte.
-    if state.len() != master_bytes::LENGTH {
+    if state.len() != packed_master::LENGTH {
         return answered(reply, 11, 0);
     }
     let master = master_of(state);
-    let times = plan_bytes::times_of(plan);
-    let sleeps = plan_bytes::sleeps(plan);
-    let nodes = plan_bytes::node_count(plan);
+    let times = set_record::times_of(plan);
+    let sleeps = set_record::sleeps(plan);
+    let nodes = set_record::node_count(plan);
     if !master.in_range(sleeps, nodes, times) {
         return answered(reply, 11, 0);
     }
@@ -106,11 +106,11 @@ pub extern "C" fn cxpi_master_step(
         × (now (state .exit) ≡ masterLeaves (masterReply (now (plan .entry)) (now (state .entry)) (now (event .entry)) (length (now (reply .entry)))) (now (state .entry)))
         × (now (reply .exit) ≡ masterReplies (masterReply (now (plan .entry)) (now (state .entry)) (now (event .entry)) (length (now (reply .entry)))) (now (reply .entry))) ⌝ }
 {
-    let refusal = plan_bytes::refusal_of(plan);
+    let refusal = set_record::refusal_of(plan);
     if refusal != 0 {
         return answered(reply, refusal, 0);
     }
-    if reply.len() < master_bytes::REPLY_LENGTH {
+    if reply.len() < packed_master::REPLY_LENGTH {
         return 10;
     }
     step_under(plan, state, event_of(event), reply)

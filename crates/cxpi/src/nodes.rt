@@ -2,33 +2,33 @@
 ghost use mathlib.Core.Path.{_≡_};
 ghost use mathlib.Core.Bool.{true};
 ghost use lib.ListN.{length};
-ghost use Rattle.plan_bytes.specs.Record.{recordOf};
-ghost use Rattle.node.specs.Step.{rowAsked};
-ghost use Rattle.node.specs.Changes.{powerOn, refuse};
-ghost use Rattle.node_bytes.specs.Places.{nodeLength};
+ghost use Rattle.set_record.specs.Record.{recordOf};
+ghost use Rattle.machine_node.specs.Step.{rowAsked};
+ghost use Rattle.machine_node.specs.Changes.{powerOn, refuse};
+ghost use Rattle.packed_node.specs.Offsets.{nodeLength};
 ghost use Rattle.cxpi.specs.PowerOn.{startRefusal};
 ghost use Rattle.cxpi.specs.NodeCalls.{nodeOn, nodeReply, nodeLeaves, nodeReplies};
 use crate::power_on::start_refusal;
-use node::Command;
-use node::Event;
-use node::Node;
-use node::Reply;
-use node_bytes::event_of;
-use node_bytes::node_of;
-use node_bytes::put_node;
-use node_bytes::put_power_on;
-use node_bytes::put_reply;
-use plan::Lookup;
+use machine_node::Command;
+use machine_node::Event;
+use machine_node::Node;
+use machine_node::Reply;
+use packed_node::event_of;
+use packed_node::node_of;
+use packed_node::put_node;
+use packed_node::put_power_on;
+use packed_node::put_reply;
+use set_plan::Lookup;
 
 #[no_mangle]
 pub extern "C" fn cxpi_node_power_on(plan: &[u8], state: &mut [u8]) -> u32
     ensures { λ r. ⌜ (r ≡ startRefusal nodeLength (now (plan .entry)) (length (now (state .entry)))) × (now (state .exit) ≡ nodeOn (now (plan .entry)) (now (state .entry))) ⌝ }
 {
-    let refusal = start_refusal(node_bytes::LENGTH, plan, state.len());
+    let refusal = start_refusal(packed_node::LENGTH, plan, state.len());
     if refusal != 0 {
         return refusal as u32;
     }
-    put_power_on(state, plan_bytes::sleeps(plan));
+    put_power_on(state, set_record::sleeps(plan));
     0
 }
 
@@ -53,8 +53,8 @@ fn row_for(plan: &[u8], event: Event) -> Lookup
         Event::WakeAsk => Lookup::Missing,
         Event::Permission(_) => Lookup::Missing,
         Event::SleepMessage => Lookup::Missing,
-        Event::Request(reqid) => plan_bytes::row_of(plan, reqid),
-        Event::SendAsk(reqid) => plan_bytes::row_of(plan, reqid),
+        Event::Request(reqid) => set_record::row_of(plan, reqid),
+        Event::SendAsk(reqid) => set_record::row_of(plan, reqid),
     }
 }
 
@@ -62,20 +62,20 @@ fn row_for(plan: &[u8], event: Event) -> Lookup
 fn reply_to(plan: &[u8], me: u8, state: &[u8], event: &[u8], room: usize) -> Reply
     ensures { λ r. ⌜ r ≡ nodeReply (now (plan .entry)) me (now (state .entry)) (now (event .entry)) room ⌝ }
 {
-    let refusal = plan_bytes::refusal_of(plan);
+    let refusal = set_record::refusal_of(plan);
     if refusal != 0 {
         return refused(refusal);
     }
-    if room < node_bytes::REPLY_LENGTH {
+    if room < packed_node::REPLY_LENGTH {
         return refused(10);
     }
     let happened = event_of(event);
     let row = row_for(plan, happened);
-    let times = plan_bytes::times_of(plan);
-    let polled = plan_bytes::is_polled(plan, me);
+    let times = set_record::times_of(plan);
+    let polled = set_record::is_polled(plan, me);
     node_of(state).step_with(
-        plan_bytes::sleeps(plan),
-        plan_bytes::node_count(plan),
+        set_record::sleeps(plan),
+        set_record::node_count(plan),
         times,
         me,
         polled,

@@ -5,7 +5,7 @@ ghost use Rattle.cxpi.specs.PowerOn.{startRefusal};
 pub(crate) fn start_refusal(needed: usize, plan: &[u8], room: usize) -> u8
     ensures { λ r. ⌜ r ≡ startRefusal needed (now (plan .entry)) room ⌝ }
 {
-    let refusal = plan_bytes::refusal_of(plan);
+    let refusal = set_record::refusal_of(plan);
     if refusal != 0 {
         return refusal;
     }

@@ -1,11 +1,11 @@
 // Calls on release sets.
 ghost use mathlib.Core.Path.{_≡_};
 ghost use lib.ListN.{length};
-ghost use Rattle.plan_bytes.specs.Record.{recordOf, recordWritten};
-ghost use Rattle.reader.specs.Read.{readSet, recordRefusal};
-ghost use Rattle.writer.specs.Write.{writeAnswer, written};
-use reader::read_record;
-use writer::write_record;
+ghost use Rattle.set_record.specs.Record.{recordOf, recordWritten};
+ghost use Rattle.set_reader.specs.Read.{readSet, recordRefusal};
+ghost use Rattle.set_writer.specs.Write.{writeAnswer, written};
+use set_reader::read_record;
+use set_writer::write_record;
 
 #[no_mangle]
 pub extern "C" fn cxpi_read(set: &[u8], plan: &mut [u8]) -> u32

@@ -8,30 +8,30 @@ use lib.Dec.{eqb}
 use lib.Seq.{sets}
 use native.Mathlib.Omega.{arith}
 use borrow.Author.Tests.{eqb-true, eqb-false, eq-eqb, ne-eqb}
-use Rattle.folds.specs.Fold.{pick}
-use Rattle.folds.proofs.Choices.{no-way}
-use Rattle.blocks.specs.Bytes.{byte}
-use Rattle.plan.specs.declared.Plan.{Plan}
-use Rattle.plan.specs.Profile.{sleeps}
-use Rattle.plan.specs.Rules.{planRefusal}
-use Rattle.master.specs.declared.Master.{Master}
-use Rattle.master.specs.declared.Event.{Event}
-use Rattle.master.specs.declared.Reply.{Reply}
-use Rattle.master.specs.Changes.{refuse}
-use Rattle.master.specs.Range.{inRange}
-use Rattle.master.specs.Step.{stepUnder, masterStep}
-use Rattle.master.proofs.InRange.{range-kept}
-use Rattle.master_events.specs.declared.EventRecord.{EventRecord}
-use Rattle.master_events.specs.declared.ReplyRecord.{ReplyRecord}
-use Rattle.master_events.specs.Events.{eventOf}
-use Rattle.master_events.specs.Replies.{commandNumber, replyRecord}
-use Rattle.master_batch.specs.Batch.{stepped}
-use Rattle.master_bytes.specs.States.{masterBytes, masterOf}
-use Rattle.master_bytes.proofs.StateTrips.{range-long, range-packed}
-use Rattle.master_in_place.specs.declared.Outcome.{Outcome}
-use Rattle.master_in_place.specs.InPlace.{outcome, leaves}
-use Rattle.master_in_place.proofs.Masters.{Sized}
-use Rattle.master_in_place.proofs.Outcomes.{written, back, done, left}
+use Rattle.base_lists.specs.Bounded.{ifElse}
+use Rattle.base_lists.proofs.Choices.{no-way}
+use Rattle.base_bytes.specs.Bytes.{byte}
+use Rattle.set_plan.specs.declared.Plan.{Plan}
+use Rattle.set_plan.specs.Profile.{sleeps}
+use Rattle.set_plan.specs.Rules.{planRefusal}
+use Rattle.machine_master.specs.declared.Master.{Master}
+use Rattle.machine_master.specs.declared.Event.{Event}
+use Rattle.machine_master.specs.declared.Reply.{Reply}
+use Rattle.machine_master.specs.Changes.{refuse}
+use Rattle.machine_master.specs.Range.{inRange}
+use Rattle.machine_master.specs.Step.{stepUnder, masterStep}
+use Rattle.machine_master.proofs.InRange.{range-kept}
+use Rattle.machine_events.specs.declared.EventRecord.{EventRecord}
+use Rattle.machine_events.specs.declared.ReplyRecord.{ReplyRecord}
+use Rattle.machine_events.specs.Events.{eventOf}
+use Rattle.machine_events.specs.Replies.{commandNumber, replyRecord}
+use Rattle.machine_batch.specs.Batch.{stepped}
+use Rattle.packed_master.specs.States.{masterBytes, masterOf}
+use Rattle.packed_master.proofs.StateTrips.{range-long, range-packed}
+use Rattle.packed_master_steps.specs.declared.Outcome.{Outcome}
+use Rattle.packed_master_steps.specs.InPlace.{outcome, leaves}
+use Rattle.packed_master_steps.proofs.Masters.{Sized}
+use Rattle.packed_master_steps.proofs.Outcomes.{written, back, done, left}
 use Rattle.cxpi_batch.specs.BatchCalls.{standing, leftUnder}
 
 module _ (p : Plan) (m : Master) where
@@ -83,7 +83,7 @@ module _ (p : Plan) (s : List ℕ) where
   refuses n e = go (eqb (planRefusal p) 0) (inRange (sleeps p) (p .nodecount) (p .times) (masterOf s)) refl refl
     where
       go : (a b : Bool) → eqb (planRefusal p) 0 ≡ a → inRange (sleeps p) (p .nodecount) (p .times) (masterOf s) ≡ b
-          → masterStep p (masterOf s) e ≡ refuse (masterOf s) (pick (eqb (planRefusal p) 0) (pick (inRange (sleeps p) (p .nodecount) (p .times) (masterOf s)) 0 11) (planRefusal p))
+          → masterStep p (masterOf s) e ≡ refuse (masterOf s) (ifElse (eqb (planRefusal p) 0) (ifElse (inRange (sleeps p) (p .nodecount) (p .times) (masterOf s)) 0 11) (planRefusal p))
       go true true h g = absurd (n (rw (h, g)))
       go true false h g = rw (h, g)
       go false b h g = rw h
@@ -160,13 +160,13 @@ module _ (number : ℕ) (b s : List ℕ) (m : Master) (left : b ≡ leftUnder nu
   pub left-self : b ≡ leftUnder number b m
   left-self = go (eqb number 0) left
     where
-      go : (a : Bool) → b ≡ pick a (masterBytes m) s → b ≡ pick a (masterBytes m) b
+      go : (a : Bool) → b ≡ ifElse a (masterBytes m) s → b ≡ ifElse a (masterBytes m) b
       go true e = e
       go false e = refl
 
   pub left-on : (n : Master) → leftUnder number b n ≡ leftUnder number s n
   left-on n = go (eqb number 0) left
     where
-      go : (a : Bool) → b ≡ pick a (masterBytes m) s → pick a (masterBytes n) b ≡ pick a (masterBytes n) s
+      go : (a : Bool) → b ≡ ifElse a (masterBytes m) s → ifElse a (masterBytes n) b ≡ ifElse a (masterBytes n) s
       go true e = refl
       go false e = e

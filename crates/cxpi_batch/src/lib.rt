@@ -1,34 +1,34 @@
 // The C firmware host's call for the master's events of a frame slot. An archive of its own: the steps of `cxpi` stay as the compiler makes them.
 ghost use mathlib.Core.Path.{_≡_};
-ghost use Rattle.plan_bytes.specs.Record.{recordOf};
-ghost use Rattle.master.specs.Step.{masterStep};
-ghost use Rattle.master_events.specs.Replies.{replyRecord};
-ghost use Rattle.master_batch.specs.Batch.{stepped, batchOf, batchReplies};
-ghost use Rattle.master_bytes.specs.States.{masterBytes, masterOf};
+ghost use Rattle.set_record.specs.Record.{recordOf};
+ghost use Rattle.machine_master.specs.Step.{masterStep};
+ghost use Rattle.machine_events.specs.Replies.{replyRecord};
+ghost use Rattle.machine_batch.specs.Batch.{stepped, batchOf, batchReplies};
+ghost use Rattle.packed_master.specs.States.{masterBytes, masterOf};
 ghost use Rattle.cxpi_batch.specs.BatchCalls.{standing, leftUnder, batchLeaves};
-use master::Event;
-use master_bytes::master_of;
-use master_bytes::put_master;
-use master_bytes::step_on;
-use master_events::EventRecord;
-use master_events::ReplyRecord;
-use master_events::command_number;
-use master_events::event_of;
-use master_in_place::Outcome;
-use master_in_place::step_in_place;
+use machine_events::EventRecord;
+use machine_events::ReplyRecord;
+use machine_events::command_number;
+use machine_events::event_of;
+use machine_master::Event;
+use packed_master::master_of;
+use packed_master::put_master;
+use packed_master::step_on;
+use packed_master_steps::Outcome;
+use packed_master_steps::step_in_place;
 
 // The number that plan and state give every event. Where it is 0 the state's bytes are those that its master is packed in.
 fn number_of(plan: &[u8], state: &[u8]) -> u8
     ensures { λ r. ⌜ (r ≡ standing (recordOf (now (plan .entry))) (masterOf (now (state .entry))))
         × (now (state .entry) ≡ leftUnder r (now (state .entry)) (masterOf (now (state .entry)))) ⌝ }
 {
-    let refusal = plan_bytes::refusal_of(plan);
+    let refusal = set_record::refusal_of(plan);
     if refusal != 0 {
         return refusal;
     }
-    let times = plan_bytes::times_of(plan);
-    let sleeps = plan_bytes::sleeps(plan);
-    if master_of(state).in_range(sleeps, plan_bytes::node_count(plan), times) {
+    let times = set_record::times_of(plan);
+    let sleeps = set_record::sleeps(plan);
+    if master_of(state).in_range(sleeps, set_record::node_count(plan), times) {
         0
     } else {
         11
@@ -83,7 +83,7 @@ fn reply_of(plan: &[u8], state: &mut [u8], number: u8, event: EventRecord) -> Re
         × (masterOf (now (state .exit)) ≡ stepped (recordOf (now (plan .entry))) (masterOf (now (state .entry))) event .master) ⌝ }
 {
     // Under 0 a state has its length. The compiler, told so, spares the tests of each byte.
-    if (number != 0) | (state.len() != master_bytes::LENGTH) {
+    if (number != 0) | (state.len() != packed_master::LENGTH) {
         return replied(number, 0);
     }
     let happened = event_of(event);

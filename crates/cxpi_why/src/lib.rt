@@ -2,13 +2,13 @@
 ghost use mathlib.Core.Path.{_≡_};
 ghost use lib.ListN.{length};
 ghost use Rattle.cxpi_why.specs.ReasonCalls.{reasonReply, reasonLeaves};
-use blocks::put;
-use master_bytes::master_of;
-use master_reason::Explained;
-use master_reason::Reason;
-use master_reason::explain_with;
-use master_reason::reason_numbers;
-use master_reason::refused;
+use base_bytes::put;
+use machine_reason::Explained;
+use machine_reason::Reason;
+use machine_reason::explain_with;
+use machine_reason::reason_numbers;
+use machine_reason::refused;
+use packed_master::master_of;
 
 // The bytes of a reply: reason, node and cause.
 const REPLY_LENGTH: usize = 3;
@@ -17,17 +17,17 @@ const REPLY_LENGTH: usize = 3;
 fn explained(plan: &[u8], state: &[u8], room: usize) -> Explained
     ensures { λ r. ⌜ r ≡ reasonReply (now (plan .entry)) (now (state .entry)) room ⌝ }
 {
-    let refusal = plan_bytes::refusal_of(plan);
+    let refusal = set_record::refusal_of(plan);
     if refusal != 0 {
         return refused(refusal);
     }
     if room < REPLY_LENGTH {
         return refused(10);
     }
-    let times = plan_bytes::times_of(plan);
+    let times = set_record::times_of(plan);
     explain_with(
-        plan_bytes::sleeps(plan),
-        plan_bytes::node_count(plan),
+        set_record::sleeps(plan),
+        set_record::node_count(plan),
         times,
         master_of(state),
     )

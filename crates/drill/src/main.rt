@@ -2,7 +2,7 @@
 use libc::STDIN_FILENO;
 
 fn main() {
-    let mut set = set_file::set_room();
-    let count = set_file::read_set(b"plan.set", &mut set);
-    drill_file::drill(&set[..count], STDIN_FILENO);
+    let mut set = program_files::set_room();
+    let count = program_files::read_file(b"plan.set", &mut set);
+    program_drill::drill(&set[..count], STDIN_FILENO);
 }

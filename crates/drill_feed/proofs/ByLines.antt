@@ -6,10 +6,10 @@ use mathlib.Core.Bool.{Bool, true, false}
 use lib.Dec.{eqb}
 use lib.ListN.{length}
 use native.Mathlib.Omega.{arith}
-use Rattle.folds.specs.Fold.{pick}
-use Rattle.plan.specs.declared.Plan.{Plan}
+use Rattle.base_lists.specs.Bounded.{ifElse}
+use Rattle.set_plan.specs.declared.Plan.{Plan}
 use Rattle.bus.specs.declared.World.{World}
-use Rattle.plan.specs.Profile.{sleeps}
+use Rattle.set_plan.specs.Profile.{sleeps}
 use Rattle.bus.specs.World.{powerOn}
 use Rattle.drill_line.specs.Words.{noNumber, longer, cut}
 use Rattle.drill_line.specs.Parse.{parseLine}
@@ -32,7 +32,7 @@ unfolding cut
 cut-some mark [] = some [] []
 cut-some mark (c ∷ text) = go (eqb c mark)
   where
-    go : (t : Bool) → Some (pick t ([] ∷ cut mark text) (longer c (cut mark text)))
+    go : (t : Bool) → Some (ifElse t ([] ∷ cut mark text) (longer c (cut mark text)))
     go true = some [] (cut mark text)
     go false = longer-some c (cut mark text)
 
@@ -78,8 +78,8 @@ module _ (plan : Plan) (few : plan .nodecount ≤ noNumber) where
   last : Right []
   unfolding allSaid said fed lastSaid cut linesText
   last w lines l =
-      ap₂ (λ b x. pick b [] x) (held-none l) (amid-text w lines l)
-      ∙ ap (λ x. pick (eqb (length x) 0) [] (lineText plan w (next lines) (judged x))) (sym (append-nil l))
+      ap₂ (λ b x. ifElse b [] x) (held-none l) (amid-text w lines l)
+      ∙ ap (λ x. ifElse (eqb (length x) 0) [] (lineText plan w (next lines) (judged x))) (sym (append-nil l))
 
   step : (c : ℕ) (input : List ℕ) → Right input → (t : Bool) → eqb c 10 ≡ t → Right (c ∷ input)
   unfolding allSaid said fed cut

@@ -9,16 +9,16 @@ use lib.Seq.{take-all, take-suc, take-add, getD-take, getD-drop}
 use native.Mathlib.Omega.{arith}
 use native.Mathlib.Numerals.{add-one}
 use borrow.Author.Tests.{eq-eqb, ne-eqb}
-use Rattle.folds.proofs.Choices.{by-test}
-use Rattle.plan.specs.declared.Plan.{Plan}
+use Rattle.base_lists.proofs.Choices.{by-test}
+use Rattle.set_plan.specs.declared.Plan.{Plan}
 use Rattle.bus.specs.declared.Act.{Act}
 use Rattle.bus.specs.declared.Fate.{Fate}
 use Rattle.bus.specs.declared.Move.{Move}
 use Rattle.bus.specs.declared.Moved.{Moved}
 use Rattle.bus.specs.declared.World.{World}
 use Rattle.bus.specs.Moves.{worldAct}
-use Rattle.text.specs.Text.{Appended, Shown, largest}
-use Rattle.text.proofs.Appends.{appended-none, appended-then, appended-as}
+use Rattle.base_text.specs.Text.{Appended, Shown, largest}
+use Rattle.base_text.proofs.Appends.{appended-none, appended-then, appended-as}
 use Rattle.drill_line.specs.declared.Line.{Line}
 use Rattle.drill_line.specs.Parse.{onDrillBus}
 use Rattle.drill_text.specs.Lines.{moveLine, badLine}

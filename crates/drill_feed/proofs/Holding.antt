@@ -9,7 +9,7 @@ use native.Mathlib.Omega.{arith}
 use native.Mathlib.Numerals.{add-one}
 use native.Mathlib.Decide.{decLt}
 use borrow.Author.Tests.{lt-ltb, le-ltb, ne-eqb}
-use Rattle.folds.proofs.Choices.{by-test}
+use Rattle.base_lists.proofs.Choices.{by-test}
 use Rattle.drill_feed.specs.declared.Held.{Held}
 use Rattle.drill_feed.specs.Feed.{room, emptyHeld, holdByte, holdAll, heldText}
 

@@ -5,16 +5,16 @@ use mathlib.Core.Bool.{Bool}
 use mathlib.Core.List.{List, [], _∷_, _++_}
 use lib.Dec.{eqb, ltb}
 use lib.ListN.{length, getD, set, take, replicate}
-use Rattle.folds.specs.Fold.{pick}
-use Rattle.plan.specs.declared.Plan.{Plan}
+use Rattle.base_lists.specs.Bounded.{ifElse}
+use Rattle.set_plan.specs.declared.Plan.{Plan}
 use Rattle.bus.specs.declared.Act.{Act}
 use Rattle.bus.specs.declared.Fate.{Fate}
 use Rattle.bus.specs.declared.World.{World}
 use Rattle.bus.specs.declared.Moved.{Moved}
-use Rattle.plan.specs.Profile.{sleeps}
+use Rattle.set_plan.specs.Profile.{sleeps}
 use Rattle.bus.specs.World.{powerOn}
 use Rattle.bus.specs.Moves.{worldAct}
-use Rattle.text.specs.Text.{Appended, Shown}
+use Rattle.base_text.specs.Text.{Appended, Shown}
 use Rattle.drill_line.specs.declared.Line.{Line}
 use Rattle.drill_line.specs.Words.{cut}
 use Rattle.drill_line.specs.Parse.{parseLine, onDrillBus}
@@ -45,7 +45,7 @@ next lines = (lines + 1) % 2 ^ 64
 -- what so many lines and more print, the input cut at each LF: "Lines end in LF, which the last may lack"
 unfoldable pub linesText : Plan → World → ℕ → List (List ℕ) → List ℕ
 linesText plan world lines [] = []
-linesText plan world lines (l ∷ []) = pick (eqb (length l) 0) [] (lineText plan world (next lines) (parseLine l (plan .nodecount)))
+linesText plan world lines (l ∷ []) = ifElse (eqb (length l) 0) [] (lineText plan world (next lines) (parseLine l (plan .nodecount)))
 linesText plan world lines (l ∷ m ∷ more) =
     lineText plan world (next lines) (parseLine l (plan .nodecount))
     ++ linesText plan (worldAfter plan world (parseLine l (plan .nodecount))) (next lines) (m ∷ more)
@@ -64,7 +64,7 @@ abbrev pub emptyHeld : Held
 emptyHeld = record { bytes = replicate 32 0; count = 0 }
 
 abbrev pub holdByte : Held → ℕ → Held
-holdByte held b = pick (ltb (held .count) room) (record { bytes = set (held .bytes) (held .count) b; count = held .count + 1 }) held
+holdByte held b = ifElse (ltb (held .count) room) (record { bytes = set (held .bytes) (held .count) b; count = held .count + 1 }) held
 
 unfoldable pub holdAll : Held → List ℕ → Held
 holdAll held [] = held
@@ -91,10 +91,10 @@ keeps d held = record { plan = d .plan; world = d .world; lines = d .lines; held
 
 -- a byte, and bytes: the drill after them, and what they print
 abbrev pub byteFed : Drill → ℕ → Drill
-byteFed d b = pick (eqb b 10) (ended d) (keeps d (holdByte (d .held) b))
+byteFed d b = ifElse (eqb b 10) (ended d) (keeps d (holdByte (d .held) b))
 
 abbrev pub byteSaid : Drill → ℕ → List ℕ
-byteSaid d b = pick (eqb b 10) (lineSaid d) []
+byteSaid d b = ifElse (eqb b 10) (lineSaid d) []
 
 unfoldable pub fed : Drill → List ℕ → Drill
 fed d [] = d
@@ -106,10 +106,10 @@ said d (b ∷ bytes) = byteSaid d b ++ said (byteFed d b) bytes
 
 -- the end of the input
 unfoldable pub lastFed : Drill → Drill
-lastFed d = pick (eqb (d .held .count) 0) d (ended d)
+lastFed d = ifElse (eqb (d .held .count) 0) d (ended d)
 
 unfoldable pub lastSaid : Drill → List ℕ
-lastSaid d = pick (eqb (d .held .count) 0) [] (lineSaid d)
+lastSaid d = ifElse (eqb (d .held .count) 0) [] (lineSaid d)
 
 -- the whole of it
 unfoldable pub allSaid : Drill → List ℕ → List ℕ

@@ -2,16 +2,16 @@
 ghost use mathlib.Core.Path.{_≡_};
 ghost use Prim.Native.Nat.{_≤_};
 ghost use lib.ListN.{length};
-ghost use Rattle.text.specs.Text.{Counts};
+ghost use Rattle.base_text.specs.Text.{Counts};
 ghost use Rattle.drill_line.specs.Parse.{parseLine};
 ghost use Rattle.drill_feed.specs.Feed.{emptyHeld, holdAll, heldText, started, fed, said, lastFed, lastSaid, LineEnd, Gives, GivesFirst};
+use base_text::below;
 use bus::World;
 use drill_line::Line;
 use drill_line::on_drill_bus;
 use drill_text::append_bad;
 use drill_text::append_move;
-use plan::Plan;
-use text::below;
+use set_plan::Plan;
 
 // The first bytes of a line that has not ended. Longer lines are no moves, so the others are not missed.
 pub struct Held {

@@ -9,11 +9,11 @@ use lib.Seq.{take-all}
 use native.Mathlib.Omega.{arith}
 use native.Mathlib.Decide.{decLt}
 use borrow.Author.Tests.{ne-eqb, le-ltb}
-use Rattle.folds.specs.Fold.{pick}
+use Rattle.base_lists.specs.Bounded.{ifElse}
 use Rattle.drill_line.specs.declared.Line.{Line}
 use Rattle.drill_line.specs.declared.Who.{Who}
 use Rattle.drill_line.specs.declared.FateWord.{FateWord}
-use Rattle.text.specs.Text.{ascii}
+use Rattle.base_text.specs.Text.{ascii}
 use Rattle.drill_line.specs.Words.{same, cut, words, longer, noNumber, numberOf}
 use Rattle.drill_line.specs.Parse.{whoOf, fateOf, oneWord, twoWords, threeWords, fourWords, permitWho, permitOf, requestOf, sendWho, sendOf, lineOf, parseLine}
 use Rattle.drill_line.proofs.Words.{same-true, same-no}
@@ -48,7 +48,7 @@ two-long a b n q p = go (same a (ascii "wake")) refl (same a (ascii "sent")) ref
 permit-nobody : (c : List ℕ) → permitOf Who.Nobody c ≡ Line.Bad
 permit-nobody c = go (same c (ascii "0")) (same c (ascii "1"))
   where
-    go : (t u : Bool) → pick t (permitWho Who.Nobody false) (pick u (permitWho Who.Nobody true) Line.Bad) ≡ Line.Bad
+    go : (t u : Bool) → ifElse t (permitWho Who.Nobody false) (ifElse u (permitWho Who.Nobody true) Line.Bad) ≡ Line.Bad
     go true u = refl
     go false true = refl
     go false false = refl
@@ -74,7 +74,7 @@ three-long a b c n q p = go (same a (ascii "permit")) refl (same a (ascii "req")
 send-nobody : (r : ℕ) (f : FateWord) → sendOf Who.Nobody r f ≡ Line.Bad
 send-nobody r (FateWord.Is f) = go (ltb 127 r)
   where
-    go : (t : Bool) → pick t Line.Bad (sendWho Who.Nobody r f) ≡ Line.Bad
+    go : (t : Bool) → ifElse t Line.Bad (sendWho Who.Nobody r f) ≡ Line.Bad
     go true = refl
     go false = refl
 send-nobody r FateWord.Unknown = refl
@@ -108,7 +108,7 @@ unfolding cut
 words-total [] = omega arith
 words-total (c ∷ s) = go (words-total s) (eqb c 32)
   where
-    go : total (words s) ≡ suc (length s) → (t : Bool) → total (pick t ([] ∷ words s) (longer c (words s))) ≡ suc (suc (length s))
+    go : total (words s) ≡ suc (length s) → (t : Bool) → total (ifElse t ([] ∷ words s) (longer c (words s))) ≡ suc (suc (length s))
     go e true = omega (arith, e)
     go e false = longer-total c (words s) (omega (arith, e)) ∙ ap suc e
 

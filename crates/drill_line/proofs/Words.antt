@@ -8,8 +8,8 @@ use lib.ListN.{length, getD, take, drop}
 use native.Mathlib.Omega.{arith}
 use native.Mathlib.Numerals.{add-one}
 use borrow.Author.Tests.{eq-eqb, ne-eqb, eqb-true}
-use Rattle.folds.specs.Fold.{pick}
-use Rattle.folds.proofs.Choices.{no-way}
+use Rattle.base_lists.specs.Bounded.{ifElse}
+use Rattle.base_lists.proofs.Choices.{no-way}
 use Rattle.drill_line.specs.declared.Line.{Line}
 use Rattle.drill_line.specs.Words.{same, cut, words, firstSpace, longer}
 use Rattle.drill_line.specs.Parse.{lineOf}
@@ -108,7 +108,7 @@ unfolding cut
 five-bad a b c d n [] = refl
 five-bad a b c d n (x ∷ s) = go (eqb x 32)
   where
-    go : (t : Bool) → Line.Bad ≡ lineOf (a ∷ b ∷ c ∷ d ∷ pick t ([] ∷ words s) (longer x (words s))) n
+    go : (t : Bool) → Line.Bad ≡ lineOf (a ∷ b ∷ c ∷ d ∷ ifElse t ([] ∷ words s) (longer x (words s))) n
     go true = refl
     go false = longer-bad a b c d n x (words s)
 

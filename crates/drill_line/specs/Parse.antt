@@ -4,12 +4,12 @@ use mathlib.Core.List.{List, [], _∷_}
 use mathlib.Core.Bool.{Bool, true, false}
 use lib.Dec.{leb, ltb}
 use lib.ListN.{replicate}
-use Rattle.folds.specs.Fold.{pick}
-use Rattle.plan.specs.Limits.{maxNodes, reqids}
+use Rattle.base_lists.specs.Bounded.{ifElse}
+use Rattle.set_plan.specs.Limits.{maxNodes, reqids}
 use Rattle.bus.specs.declared.Act.{Act}
 use Rattle.bus.specs.declared.Fate.{Fate}
 use Rattle.bus.specs.declared.Move.{Move}
-use Rattle.text.specs.Text.{ascii}
+use Rattle.base_text.specs.Text.{ascii}
 use Rattle.drill_line.specs.Words.{same, words, numberOf}
 use Rattle.drill_line.specs.declared.Line.{Line}
 use Rattle.drill_line.specs.declared.FateWord.{FateWord}
@@ -17,7 +17,7 @@ use Rattle.drill_line.specs.declared.Who.{Who}
 
 -- "X a node number below N or m"
 abbrev pub whoOf : List ℕ → ℕ → Who
-whoOf w nodecount = pick (same w (ascii "m")) Who.Master (pick (ltb (numberOf w) nodecount) (Who.Node (numberOf w)) Who.Nobody)
+whoOf w nodecount = ifElse (same w (ascii "m")) Who.Master (ifElse (ltb (numberOf w) nodecount) (Who.Node (numberOf w)) Who.Nobody)
 
 -- W-207: "The drill sends the row's own length", which no row's is above
 abbrev pub whole : Fate
@@ -30,14 +30,14 @@ damaged = Fate.Damaged (record { result = 1; length = 0; count = 0; permission =
 -- "H being ok, bad or lost for the answer"
 abbrev pub fateOf : List ℕ → FateWord
 fateOf w =
-    pick (same w (ascii "ok")) (FateWord.Is whole)
-    (pick (same w (ascii "bad")) (FateWord.Is damaged)
-    (pick (same w (ascii "lost")) (FateWord.Is Fate.Lost)
+    ifElse (same w (ascii "ok")) (FateWord.Is whole)
+    (ifElse (same w (ascii "bad")) (FateWord.Is damaged)
+    (ifElse (same w (ascii "lost")) (FateWord.Is Fate.Lost)
     FateWord.Unknown))
 
 -- `tick`; `sleep`
 abbrev pub oneWord : List ℕ → Line
-oneWord w = pick (same w (ascii "tick")) (Line.Move Act.Tick true whole) (pick (same w (ascii "sleep")) (Line.Move Act.SleepAsk true whole) Line.Bad)
+oneWord w = ifElse (same w (ascii "tick")) (Line.Move Act.Tick true whole) (ifElse (same w (ascii "sleep")) (Line.Move Act.SleepAsk true whole) Line.Bad)
 
 abbrev pub wakeOf : Who → Line
 wakeOf (Who.Node node) = Line.Move (Act.NodeWakeAsk node) true whole
@@ -47,13 +47,13 @@ wakeOf Who.Nobody = Line.Bad
 -- "`sent ok` (reaches all) or `sent fail` (none)"
 abbrev pub sentOf : List ℕ → Line
 sentOf result =
-    pick (same result (ascii "ok")) (Line.Move (Act.SendResult true) true whole)
-    (pick (same result (ascii "fail")) (Line.Move (Act.SendResult false) false whole)
+    ifElse (same result (ascii "ok")) (Line.Move (Act.SendResult true) true whole)
+    (ifElse (same result (ascii "fail")) (Line.Move (Act.SendResult false) false whole)
     Line.Bad)
 
 -- `wake X`; `sent ok` or `sent fail`
 abbrev pub twoWords : List ℕ → List ℕ → ℕ → Line
-twoWords w x nodecount = pick (same w (ascii "wake")) (wakeOf (whoOf x nodecount)) (pick (same w (ascii "sent")) (sentOf x) Line.Bad)
+twoWords w x nodecount = ifElse (same w (ascii "wake")) (wakeOf (whoOf x nodecount)) (ifElse (same w (ascii "sent")) (sentOf x) Line.Bad)
 
 abbrev pub permitWho : Who → Bool → Line
 permitWho (Who.Node node) permitted = Line.Move (Act.NodePermission node permitted) true whole
@@ -61,17 +61,17 @@ permitWho Who.Master permitted = Line.Move (Act.MasterPermission permitted) true
 permitWho Who.Nobody permitted = Line.Bad
 
 abbrev pub permitOf : Who → List ℕ → Line
-permitOf who permission = pick (same permission (ascii "0")) (permitWho who false) (pick (same permission (ascii "1")) (permitWho who true) Line.Bad)
+permitOf who permission = ifElse (same permission (ascii "0")) (permitWho who false) (ifElse (same permission (ascii "1")) (permitWho who true) Line.Bad)
 
 -- "R 0 to 127"
 abbrev pub requestOf : ℕ → FateWord → Line
-requestOf reqid (FateWord.Is fate) = pick (leb reqids reqid) Line.Bad (Line.Move (Act.Request reqid) true fate)
+requestOf reqid (FateWord.Is fate) = ifElse (leb reqids reqid) Line.Bad (Line.Move (Act.Request reqid) true fate)
 requestOf reqid FateWord.Unknown = Line.Bad
 
 -- `permit X 0` or `1`; `req R H`
 abbrev pub threeWords : List ℕ → List ℕ → List ℕ → ℕ → Line
 threeWords w x y nodecount =
-    pick (same w (ascii "permit")) (permitOf (whoOf x nodecount) y) (pick (same w (ascii "req")) (requestOf (numberOf x) (fateOf y)) Line.Bad)
+    ifElse (same w (ascii "permit")) (permitOf (whoOf x nodecount) y) (ifElse (same w (ascii "req")) (requestOf (numberOf x) (fateOf y)) Line.Bad)
 
 -- "(not m)"
 abbrev pub sendWho : Who → ℕ → Fate → Line
@@ -80,12 +80,12 @@ sendWho Who.Master reqid fate = Line.Bad
 sendWho Who.Nobody reqid fate = Line.Bad
 
 abbrev pub sendOf : Who → ℕ → FateWord → Line
-sendOf who reqid (FateWord.Is fate) = pick (leb reqids reqid) Line.Bad (sendWho who reqid fate)
+sendOf who reqid (FateWord.Is fate) = ifElse (leb reqids reqid) Line.Bad (sendWho who reqid fate)
 sendOf who reqid FateWord.Unknown = Line.Bad
 
 -- `send X R H`
 abbrev pub fourWords : List ℕ → List ℕ → List ℕ → List ℕ → ℕ → Line
-fourWords w x y z nodecount = pick (same w (ascii "send")) (sendOf (whoOf x nodecount) (numberOf y) (fateOf z)) Line.Bad
+fourWords w x y z nodecount = ifElse (same w (ascii "send")) (sendOf (whoOf x nodecount) (numberOf y) (fateOf z)) Line.Bad
 
 abbrev pub lineOf : List (List ℕ) → ℕ → Line
 lineOf [] nodecount = Line.Bad

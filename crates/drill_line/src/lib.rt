@@ -5,14 +5,14 @@ ghost use Prim.Native.Nat.{_+_, _<_};
 ghost use lib.ListN.{length, take, drop};
 ghost use Rattle.drill_line.specs.Words.{same, words, firstSpace, digitOf, twoDigits, threeDigits, numberOf};
 ghost use Rattle.drill_line.specs.Parse.{whoOf, fateOf, oneWord, wakeOf, sentOf, twoWords, permitWho, permitOf, requestOf, threeWords, sendWho, sendOf, fourWords, lineOf, parseLine, onDrillBus};
-use blocks::byte_at;
+use base_bytes::byte_at;
 use bus::Act;
 use bus::Bus;
 use bus::Damage;
 use bus::Fate;
 use bus::Move;
-use plan::Plan;
-use plan::Row;
+use set_plan::Plan;
+use set_plan::Row;
 
 // What becomes of an answer: H.
 pub enum FateWord {

@@ -6,12 +6,12 @@ use mathlib.Core.Bool.{Bool, true, false}
 use lib.ListN.{length, length-append}
 use native.Mathlib.Omega.{arith}
 use native.Mathlib.Numerals.{add-one}
-use Rattle.text.specs.Text.{Appended, largest}
-use Rattle.text.proofs.Appends.{appended-none, appended-then}
-use Rattle.text.proofs.Digits.{decimal-short}
-use Rattle.machine.specs.declared.State.{State}
-use Rattle.master.specs.declared.Master.{Master}
-use Rattle.node.specs.declared.Node.{Node}
+use Rattle.base_text.specs.Text.{Appended, largest}
+use Rattle.base_text.proofs.Appends.{appended-none, appended-then}
+use Rattle.base_text.proofs.Digits.{decimal-short}
+use Rattle.machine_state.specs.declared.State.{State}
+use Rattle.machine_master.specs.declared.Master.{Master}
+use Rattle.machine_node.specs.declared.Node.{Node}
 use Rattle.bus.specs.declared.World.{World}
 use Rattle.bus.specs.World.{nodeAt, nodesUsed}
 use Rattle.drill_text.specs.Lines.{stateLetter, phaseDigit, clockDigit, statusText, nodeText, nodesText, refusalText, moveLine, badLine}

@@ -2,14 +2,14 @@
 use Prim.Native.Nat.{ℕ, zero, suc}
 use mathlib.Core.List.{List, [], _∷_, _++_}
 use mathlib.Core.Bool.{Bool}
-use Rattle.folds.specs.Fold.{pick}
-use Rattle.machine.specs.declared.State.{State}
-use Rattle.master.specs.declared.Master.{Master}
-use Rattle.master.specs.declared.Phase.{Phase}
-use Rattle.node.specs.declared.Node.{Node}
+use Rattle.base_lists.specs.Bounded.{ifElse}
+use Rattle.machine_state.specs.declared.State.{State}
+use Rattle.machine_master.specs.declared.Master.{Master}
+use Rattle.machine_master.specs.declared.Phase.{Phase}
+use Rattle.machine_node.specs.declared.Node.{Node}
 use Rattle.bus.specs.declared.World.{World}
 use Rattle.bus.specs.World.{nodeAt, nodesUsed}
-use Rattle.text.specs.Text.{ascii, decimal}
+use Rattle.base_text.specs.Text.{ascii, decimal}
 
 -- "state (N, S, Z)": Normal, Standby and Sleep
 abbrev pub stateLetter : State → ℕ
@@ -36,7 +36,7 @@ statusText master = 0x20 ∷ stateLetter (master .state) ∷ phaseDigit (master 
 
 -- "one letter per node, `!` after it for error"
 unfoldable pub nodeText : State → Bool → List ℕ
-nodeText state error = pick error (stateLetter state ∷ ascii "!") (stateLetter state ∷ [])
+nodeText state error = ifElse error (stateLetter state ∷ ascii "!") (stateLetter state ∷ [])
 
 -- the first n nodes, one word
 unfoldable pub nodesText : List Node → ℕ → List ℕ

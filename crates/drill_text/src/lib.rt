@@ -1,15 +1,15 @@
 // The lines that the drill prints.
 ghost use mathlib.Core.Path.{_≡_};
-ghost use Rattle.text.specs.Text.{Appended};
+ghost use Rattle.base_text.specs.Text.{Appended};
 ghost use Rattle.bus.specs.World.{nodesUsed};
 ghost use Rattle.drill_text.specs.Lines.{stateLetter, phaseDigit, clockDigit, nodeText, nodesText, refusalText, moveLine, badLine};
+use base_text::append;
+use base_text::append_decimal;
 use bus::World;
-use machine::State;
-use master::Phase;
-use node::Node;
-use plan::Plan;
-use text::append;
-use text::append_decimal;
+use machine_master::Phase;
+use machine_node::Node;
+use machine_state::State;
+use set_plan::Plan;
 
 fn state_letter(state: State) -> u8
     ensures { λ r. ⌜ r ≡ stateLetter state ⌝ }

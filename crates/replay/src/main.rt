@@ -1,9 +1,9 @@
 // Replays recorded moves, records of 16 bytes from standard input, under the set in the file plan.set: prints the drill's line of each.
 ghost use mathlib.Core.Path.{_≡_};
 ghost use lib.ListN.{length};
+use drill_replay::Replay;
 use libc::STDIN_FILENO;
 use libc::STDOUT_FILENO;
-use replay_text::Replay;
 
 struct Turn {
     replay: Replay,
@@ -49,9 +49,9 @@ fn run(start: Replay) {
 }
 
 fn main() {
-    let mut set = set_file::set_room();
-    let count = set_file::read_set(b"plan.set", &mut set);
-    let answer = set_file::read_plan(&set[..count]);
+    let mut set = program_files::set_room();
+    let count = program_files::read_file(b"plan.set", &mut set);
+    let answer = program_files::read_plan(&set[..count]);
     let plan = answer.plan;
     if answer.refusal == 0 {
         run(Replay::start(plan));

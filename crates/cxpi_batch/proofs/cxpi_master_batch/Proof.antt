@@ -1,4 +1,4 @@
--- `cxpi_master_batch` meets its contract: a walk of its MIR, by hand, as `master_batch::run`'s is. The events' and replies' borrows are opened once; the
+-- `cxpi_master_batch` meets its contract: a walk of its MIR, by hand, as `machine_batch::run`'s is. The events' and replies' borrows are opened once; the
 -- state's bytes are lent again for each call, and the plan's with them. Of the two functions that it calls the proof knows their contracts alone.
 --     Turn      all that is known at the loop's head, with `start`, `next` and `ended`: before the first turn, after a turn, where no event is left
 --     exits     from what is had at exit to the promise
@@ -56,21 +56,21 @@ use denote.Triple.Statement.{Contract, Triple}
 use denote.Triple.Table.{entered, cited}
 use denote.Triple.Walked.{says, Stays, stay-dropped, stay-slice, walkOf, AllGo, goes-dropped, goes-slice, Walks, ends-at, walked, walk-meets}
 use denote.Exit.{yes}
-use Rattle.plan.specs.declared.Plan.{Plan}
-use Rattle.plan_bytes.specs.Record.{recordOf}
-use Rattle.master.specs.declared.Master.{Master}
-use Rattle.master_events.specs.declared.EventRecord.{EventRecord}
-use Rattle.master_events.specs.declared.ReplyRecord.{ReplyRecord}
-use Rattle.master_events.proofs.EventRecord as E
-use Rattle.master_events.proofs.EventRecord.Laws as E′
-use Rattle.master_events.proofs.ReplyRecord as R
-use Rattle.master_events.proofs.ReplyRecord.Laws as R′
-use Rattle.master_batch.specs.Batch.{stepped, masterAfter, repliesTo, tooShort, batchOf, batchReplies}
-use Rattle.master_batch.proofs.Offset.{offset-fits}
-use Rattle.master_batch.proofs.Runs.{noRecord, noReply, repliesFrom, from-start, next-master, next-replies, last-master, last-replies}
-use Rattle.master_bytes.specs.States.{masterOf}
+use Rattle.set_plan.specs.declared.Plan.{Plan}
+use Rattle.set_record.specs.Record.{recordOf}
+use Rattle.machine_master.specs.declared.Master.{Master}
+use Rattle.machine_events.specs.declared.EventRecord.{EventRecord}
+use Rattle.machine_events.specs.declared.ReplyRecord.{ReplyRecord}
+use Rattle.machine_events.proofs.EventRecord as E
+use Rattle.machine_events.proofs.EventRecord.Laws as E′
+use Rattle.machine_events.proofs.ReplyRecord as R
+use Rattle.machine_events.proofs.ReplyRecord.Laws as R′
+use Rattle.machine_batch.specs.Batch.{stepped, masterAfter, repliesTo, tooShort, batchOf, batchReplies}
+use Rattle.machine_batch.proofs.Offset.{offset-fits}
+use Rattle.machine_batch.proofs.Loop.{noRecord, noReply, repliesFrom, from-start, next-master, next-replies, last-master, last-replies}
+use Rattle.packed_master.specs.States.{masterOf}
 use Rattle.cxpi_batch.specs.BatchCalls.{standing, leftUnder, batchLeaves}
-use Rattle.cxpi_batch.proofs.Again.{LentAgain, lends-again, comes-back}
+use Rattle.cxpi_batch.proofs.LentAgain.{LentAgain, lends-again, comes-back}
 use Rattle.cxpi_batch.proofs.BatchStates.{standing-kept, left-self, left-on}
 use Rattle.cxpi_batch.proofs.opened as judged
 use Rattle.cxpi_batch.proofs.opened.Symbol as judged-def

@@ -3,10 +3,10 @@ use mathlib.Core.Path.{sym, _∙_}
 use lib.ListN.{length-map}
 use borrow.Author.Needs.{needs}
 use denote.Struct.Laws as LL
-use Rattle.master.proofs.Master as S
-use Rattle.master.proofs.Master.Laws as S′
-use Rattle.master.proofs.Reply as Y
-use Rattle.master.proofs.Reply.Laws as Y′
+use Rattle.machine_master.proofs.Master as S
+use Rattle.machine_master.proofs.Master.Laws as S′
+use Rattle.machine_master.proofs.Reply as Y
+use Rattle.machine_master.proofs.Reply.Laws as Y′
 use Rattle.cxpi_batch.proofs.BatchStates.{machine-done}
 use Rattle.cxpi_batch.proofs.machine_step.Statement.{statement}
 use Rattle.cxpi_batch.proofs.machine_step.Tie as tie

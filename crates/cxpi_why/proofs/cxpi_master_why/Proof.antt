@@ -1,5 +1,5 @@
 use mathlib.Core.Path.{ap}
-use Rattle.master_reason.specs.declared.Explained.{Explained}
+use Rattle.machine_reason.specs.declared.Explained.{Explained}
 use borrow.Author.Needs.{needs}
 use Rattle.cxpi_why.proofs.cxpi_master_why.Statement.{statement}
 use Rattle.cxpi_why.proofs.cxpi_master_why.Tie as tie

@@ -1,7 +1,7 @@
-use Rattle.text.proofs.Appends.{appended-as}
+use Rattle.base_text.proofs.Appends.{appended-as}
 use mathlib.Core.Path.{ap}
 use mathlib.Core.List.{_∷_, []}
-use Rattle.text.specs.Text.{ascii}
+use Rattle.base_text.specs.Text.{ascii}
 use Rattle.drill_text.specs.Lines.{nodeText}
 use borrow.Author.Needs.{needs}
 use Rattle.drill_text.proofs.append_node.Statement.{statement}

@@ -3,8 +3,8 @@ use Prim.Native.Nat.{_-_, _≤_, min}
 use mathlib.Core.Path.{_≡_, refl, ap}
 use native.Mathlib.Omega.{arith}
 use lib.ListN.{length}
-use Rattle.text.specs.Text.{Appended, largest}
-use Rattle.text.proofs.Appends.{appended-as}
+use Rattle.base_text.specs.Text.{Appended, largest}
+use Rattle.base_text.proofs.Appends.{appended-as}
 use Rattle.drill_text.specs.Lines.{nodesText}
 use Rattle.drill_text.proofs.Lines.{nodes-none, nodes-more}
 use borrow.Author.Needs.{needs}

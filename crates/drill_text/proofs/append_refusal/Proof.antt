@@ -2,8 +2,8 @@
 use Prim.Native.Nat.{_≤_}
 use lib.ListN.{length}
 use native.Mathlib.Omega.{arith}
-use Rattle.text.specs.Text.{largest}
-use Rattle.text.proofs.Appends.{appended-then}
+use Rattle.base_text.specs.Text.{largest}
+use Rattle.base_text.proofs.Appends.{appended-then}
 use Rattle.drill_text.specs.Lines.{refusalText}
 use borrow.Author.Needs.{needs}
 use Rattle.drill_text.proofs.append_refusal.Statement.{statement}

@@ -2,7 +2,7 @@
 use mathlib.Core.Path.{ap, _∙_}
 use mathlib.Core.Logic.{⊎-elim}
 use mathlib.Core.List.{List}
-use Rattle.node.specs.declared.Node.{Node}
+use Rattle.machine_node.specs.declared.Node.{Node}
 use Rattle.bus.proofs.Publishing.{answers, unreached, masters}
 use borrow.Author.Needs.{needs}
 use Rattle.bus.proofs.World.publish.Statement.{statement}

@@ -5,8 +5,8 @@ use mathlib.Core.Bool.{true}
 use native.Mathlib.Omega.{arith}
 use borrow.Author.Tests.{not-true, not-false}
 use lib.ListN.{length}
-use Rattle.folds.specs.Fold.{allTo}
-use Rattle.folds.proofs.AllAny.{all-none, all-more, all-false}
+use Rattle.base_lists.specs.Bounded.{allTo}
+use Rattle.base_lists.proofs.AllAny.{all-none, all-more, all-false}
 use Rattle.bus.specs.Range.{nodeInRange}
 use borrow.Author.Needs.{needs}
 use Rattle.bus.proofs.range.nodes_in_range.Statement.{statement}

@@ -4,10 +4,10 @@ use mathlib.Core.Path.{_≡_, refl, ap, sym, _∙_}
 use native.Mathlib.Omega.{arith}
 use lib.ListN.{length, getD}
 use lib.Seq.{set-getD}
-use Rattle.node.specs.declared.Command.{Command}
-use Rattle.node.specs.declared.Node.{Node}
-use Rattle.node.specs.declared.Reply.{Reply}
-use Rattle.node.specs.Ticks.{tickStep}
+use Rattle.machine_node.specs.declared.Command.{Command}
+use Rattle.machine_node.specs.declared.Node.{Node}
+use Rattle.machine_node.specs.declared.Reply.{Reply}
+use Rattle.machine_node.specs.Ticks.{tickStep}
 use Rattle.bus.specs.Ticks.{tickedNodes, tickCallers}
 use Rattle.bus.specs.World.{noNode, nodeAt}
 use Rattle.bus.proofs.EachOne.{each-more, each-next}

@@ -1,7 +1,7 @@
 -- By the identity's length. Assumes nothing.
 use mathlib.Core.Path.{refl, ap}
 use borrow.Author.Tests.{eq-eqb, ne-eqb}
-use Rattle.node_configuration.specs.declared.Reply.{Reply}
+use Rattle.machine_node_configuration.specs.declared.Reply.{Reply}
 use borrow.Author.Needs.{needs}
 use Rattle.cxpi.proofs.configuration.cxpi_node_configure.Statement.{statement}
 use Rattle.cxpi.proofs.configuration.cxpi_node_configure.Tie as tie

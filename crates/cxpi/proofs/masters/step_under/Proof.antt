@@ -3,8 +3,8 @@ use mathlib.Core.Path.{sym, _∙_}
 use borrow.Author.Needs.{needs}
 use native.Mathlib.Omega.{arith}
 use borrow.Author.Tests.{not-true, not-false}
-use Rattle.plan_bytes.specs.Record.{recordOf}
-use Rattle.master_bytes.proofs.StateTrips.{other-length}
+use Rattle.set_record.specs.Record.{recordOf}
+use Rattle.packed_master.proofs.StateTrips.{other-length}
 use Rattle.cxpi.proofs.CallLaws.{no-master-state}
 use Rattle.cxpi.proofs.MasterSteps.{master-out, master-in-place, master-left}
 use Rattle.cxpi.proofs.masters.step_under.Statement.{statement}

@@ -1,7 +1,7 @@
 -- By what is written. Assumes nothing.
 use mathlib.Core.Path.{ap}
 use native.Mathlib.Omega.{arith}
-use Rattle.writer.specs.declared.WriteAnswer.{WriteAnswer}
+use Rattle.set_writer.specs.declared.WriteAnswer.{WriteAnswer}
 use Rattle.cxpi.proofs.Calls.{answer-short}
 use borrow.Author.Needs.{needs}
 use Rattle.cxpi.proofs.sets.cxpi_write.Statement.{statement}

@@ -1,5 +1,5 @@
 use native.Mathlib.Omega.{arith}
-use Rattle.text.proofs.Appends.{shown}
+use Rattle.base_text.proofs.Appends.{shown}
 use borrow.Author.Needs.{needs}
 use Rattle.drill_feed.proofs.Drill.feed.Statement.{statement}
 use Rattle.drill_feed.proofs.Drill.feed.Tie as tie

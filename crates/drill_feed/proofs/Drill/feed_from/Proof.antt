@@ -5,10 +5,10 @@ use mathlib.Core.Logic.{⊎-elim}
 use native.Mathlib.Omega.{arith}
 use lib.ListN.{length, take}
 use lib.Seq.{take-all}
-use Rattle.plan.specs.declared.Plan.{Plan}
+use Rattle.set_plan.specs.declared.Plan.{Plan}
 use Rattle.bus.specs.declared.World.{World}
-use Rattle.text.specs.Text.{Appended, largest}
-use Rattle.text.proofs.Appends.{appended-as}
+use Rattle.base_text.specs.Text.{Appended, largest}
+use Rattle.base_text.proofs.Appends.{appended-as}
 use Rattle.drill_feed.specs.declared.Drill.{Drill}
 use Rattle.drill_feed.specs.declared.Held.{Held}
 use Rattle.drill_feed.specs.Feed.{fed, said, keeps}

@@ -1,7 +1,7 @@
 -- A held line ends, or there is none.
 use mathlib.Core.Path.{refl, _∙_}
 use native.Mathlib.Omega.{arith}
-use Rattle.text.proofs.Appends.{appended-as, shown}
+use Rattle.base_text.proofs.Appends.{appended-as, shown}
 use Rattle.drill_feed.proofs.Feeding.{last-none, last-one, said-end, fed-end, still-fed, ended-fed}
 use borrow.Author.Needs.{needs}
 use Rattle.drill_feed.proofs.Drill.finish.Statement.{statement}

@@ -1,0 +1,4 @@
+pub mod Halves
+pub mod Parts
+pub mod Puts
+pub mod CheckTotals

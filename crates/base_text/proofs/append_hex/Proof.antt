@@ -1,0 +1,38 @@
+-- The two digits. Assumes nothing.
+use mathlib.Core.Path.{ap₂}
+use mathlib.Core.List.{[], _∷_}
+use Rattle.base_text.specs.Text.{hexByte}
+use Rattle.base_text.proofs.Appends.{appended-as}
+use borrow.Author.Needs.{needs}
+use Rattle.base_text.proofs.append_hex.Statement.{statement}
+use Rattle.base_text.proofs.append_hex.Tie as tie
+
+hex-digit-requires : tie.Need-hex-digit-requires
+hex-digit-requires c κs = search needs
+
+hex-digit-requires-2 : tie.Need-hex-digit-requires-2
+hex-digit-requires-2 c κs = search needs
+
+slice-aggregate-append : tie.Need-slice-aggregate-append
+slice-aggregate-append c = search needs
+
+append-requires : tie.Need-append-requires
+append-requires c κs = search needs
+
+same-length : tie.Need-same-length
+same-length c = search needs
+
+returns : tie.Need-returns
+unfolding hexByte
+returns c = appended-as (ap₂ (λ x y. x ∷ y ∷ []) (c .before .before .before .before .before .hex-digit .ensures) (c .before .before .before .before .hex-digit2 .ensures)) (c .before .before .append .ensures)
+
+pub append-hex-spec : {M : Type 1} → statement M
+append-hex-spec =
+    tie.close
+    (tie.spec
+    hex-digit-requires
+    hex-digit-requires-2
+    slice-aggregate-append
+    append-requires
+    same-length
+    returns)

@@ -1,4 +1,0 @@
-pub mod Halves
-pub mod Parts
-pub mod Puts
-pub mod Sheet

@@ -1,6 +1,0 @@
--- The length of a block.
-use Prim.Native.Nat.{ℕ}
-
--- "512-byte blocks": `blocks::BLOCK_LENGTH`
-abbrev pub blockLength : ℕ
-blockLength = 512

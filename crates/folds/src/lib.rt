@@ -1,1 +1,0 @@
-// Folds over the numbers below a bound, for the definitions of every crate above: there is no code.

@@ -1,0 +1,10 @@
+pub mod Awake
+pub mod Cases
+pub mod Commands
+pub mod ErrorShows
+pub mod InRange
+pub mod TableLengths
+pub mod Refusals
+pub mod Settling
+pub mod WithClock
+pub mod WithoutClock

@@ -1,0 +1,4 @@
+pub mod Responses
+pub mod Identity
+pub mod Offsets
+pub mod Requests

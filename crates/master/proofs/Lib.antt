@@ -1,7 +1,0 @@
-pub mod Awake
-pub mod Clock
-pub mod InRange
-pub mod InRun
-pub mod NoBearing
-pub mod Places
-pub mod Refusals

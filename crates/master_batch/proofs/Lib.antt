@@ -1,3 +1,0 @@
-pub mod Offset
-pub mod OneByOne
-pub mod Runs

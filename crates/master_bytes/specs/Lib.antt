@@ -1,4 +1,0 @@
-pub mod Events
-pub mod Places
-pub mod Replies
-pub mod States

@@ -1,4 +1,0 @@
-pub mod Answers
-pub mod Identity
-pub mod Places
-pub mod Requests

@@ -1,0 +1,4 @@
+pub mod Events
+pub mod Offsets
+pub mod Replies
+pub mod States

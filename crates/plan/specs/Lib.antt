@@ -1,6 +1,0 @@
-pub mod Answers
-pub mod Find
-pub mod Limits
-pub mod Profile
-pub mod Record
-pub mod Rules

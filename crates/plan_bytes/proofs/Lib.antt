@@ -1,7 +1,0 @@
-pub mod Fours
-mod Nodes
-pub mod RecordRuns
-pub mod RecordTrip
-pub mod Records
-mod Refusals
-mod Rows

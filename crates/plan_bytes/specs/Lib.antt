@@ -1,4 +1,0 @@
-pub mod Entries
-pub mod Places
-pub mod Record
-pub mod RowsRefusal

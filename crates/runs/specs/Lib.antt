@@ -1,4 +1,0 @@
-pub mod Encode
-pub mod Encoding
-pub mod Records
-pub mod Runs

@@ -1,0 +1,4 @@
+pub mod Entries
+pub mod Offsets
+pub mod Record
+pub mod RowsRefusal

@@ -1,0 +1,2 @@
+pub mod ShownSets
+pub mod Lines

@@ -1,0 +1,10 @@
+pub mod BlockSpans
+pub mod Checks
+pub mod Kept
+pub mod SetLengths
+pub mod ReadBack
+pub mod Refusals
+pub mod RoundTrip
+pub mod SetBytes
+pub mod Unused
+pub mod WriteBack

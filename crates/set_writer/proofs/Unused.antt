@@ -1,0 +1,95 @@
+-- "The writer ignores unused places of its record".
+use Prim.Native.Nat.{ℕ, _+_, _*_, _-_, _/_, _%_, _≤_, _<_, min}
+use mathlib.Core.Path.{_≡_, refl, ap}
+use mathlib.Core.List.{List, _++_}
+use mathlib.Core.Bool.{Bool, true, false}
+use lib.ListN.{length, getD, drop}
+use lib.Dec.{eqb}
+use native.Mathlib.Omega.{arith}
+use native.Mathlib.Decide.{decLt}
+use borrow.Author.Tests.{lt-ltb, le-ltb, eqb-true, eqb-false}
+use Rattle.base_lists.specs.Bounded.{ifElse}
+use Rattle.base_lists.proofs.Tables.{tab-ext}
+use Rattle.set_plan.specs.declared.NodeEntry.{NodeEntry}
+use Rattle.set_plan.specs.declared.Row.{Row}
+use Rattle.set_plan.specs.declared.Plan.{Plan}
+use Rattle.set_plan.specs.Record.{unusedZero}
+use Rattle.set_plan.specs.Rules.{planRefusal}
+use Rattle.set_plan.proofs.Accepted.{accepted, nodes-few, rows-few}
+use Rattle.set_plan.proofs.Unused.{entry-same, row-same, unused-refusal}
+use Rattle.set_record.specs.Entries.{entryBytes, rowBytes}
+use Rattle.set_writer.specs.Write.{planHead, planByte, rowsIn, messageByte, dataByte, setLength, withChecks, writeSet, writeRefusal, written}
+use Rattle.set_writer.proofs.SetLengths.{length-least}
+use Rattle.set_writer.proofs.Refusals.{room}
+
+module _ (p : Plan) where
+  module _ (few-nodes : p .nodecount ≤ 16) (few-rows : p .rowcount ≤ 127) where
+    plan-same : (o : ℕ) → planByte (unusedZero p) o ≡ planByte p o
+    unfolding planByte planHead unusedZero
+    plan-same o = go (decLt o 32) (decLt o (32 + 4 * p .nodecount))
+      where
+        go : Dec (o < 32) → Dec (o < 32 + 4 * p .nodecount) → planByte (unusedZero p) o ≡ planByte p o
+        go (yes a) b = rw (lt-ltb o 32 a)
+        go (no a) (yes b) =
+            rw (le-ltb o 32 (omega arith), lt-ltb o (32 + 4 * p .nodecount) b)
+            (ap (λ (e : NodeEntry). getD (entryBytes e) ((o - 32) % 4) 0) (entry-same p ((o - 32) / 4) (omega arith) (omega arith)))
+        go (no a) (no b) = rw (le-ltb o 32 (omega arith), le-ltb o (32 + 4 * p .nodecount) (omega arith))
+
+    -- a row of message block b is one of the rows in use
+    used : (b k : ℕ) → 1 ≤ b → b < 3 → k < rowsIn (p .rowcount) b → 100 * (b - 1) + k < p .rowcount
+    unfolding rowsIn
+    used b k x y h = go (eqb b 1) refl
+      where
+        go : (c : Bool) → eqb b 1 ≡ c → 100 * (b - 1) + k < p .rowcount
+        go true e =
+            let z : b ≡ 1 = eqb-true _ _ e in
+            let q : k < min (p .rowcount) 100 = rw e at h in
+            omega arith
+        go false e =
+            let n : b ≡ 1 → ⊥ = eqb-false b 1 e in
+            let z : b ≡ 2 = omega arith in
+            let q : k < p .rowcount - 100 = rw e at h in
+            omega arith
+
+    message-same : (b o : ℕ) → 1 ≤ b → b < 3 → messageByte (unusedZero p) b o ≡ messageByte p b o
+    unfolding messageByte unusedZero
+    message-same b o x y = go (decLt o 8) (decLt o (8 + 4 * rowsIn (p .rowcount) b))
+      where
+        go : Dec (o < 8) → Dec (o < 8 + 4 * rowsIn (p .rowcount) b) → messageByte (unusedZero p) b o ≡ messageByte p b o
+        go (yes a) c = rw (lt-ltb o 8 a)
+        go (no a) (yes c) =
+            let h : 100 * (b - 1) + (o - 8) / 4 < p .rowcount = used b ((o - 8) / 4) x y (omega arith) in
+            rw (le-ltb o 8 (omega arith), lt-ltb o (8 + 4 * rowsIn (p .rowcount) b) c)
+            (ap (λ (r : Row). getD (rowBytes r) ((o - 8) % 4) 0) (row-same p (100 * (b - 1) + (o - 8) / 4) (omega arith) h))
+        go (no a) (no c) = rw (le-ltb o 8 (omega arith), le-ltb o (8 + 4 * rowsIn (p .rowcount) b) (omega arith))
+
+    data-same : (o : ℕ) → o < 1536 → dataByte (unusedZero p) o ≡ dataByte p o
+    unfolding dataByte
+    data-same o h = go (decLt o 512)
+      where
+        go : Dec (o < 512) → dataByte (unusedZero p) o ≡ dataByte p o
+        go (yes a) = rw (lt-ltb o 512 a) (plan-same o)
+        go (no a) = rw (le-ltb o 512 (omega arith)) (message-same (o / 512) (o % 512) (omega arith) (omega arith))
+
+  refusal-same : (room : ℕ) → writeRefusal (unusedZero p) room ≡ writeRefusal p room
+  unfolding writeRefusal unusedZero
+  refusal-same room = rw (unused-refusal p)
+
+  set-same : planRefusal p ≡ 0 → writeSet (unusedZero p) ≡ writeSet p
+  unfolding writeSet unusedZero
+  set-same e =
+      let a = accepted p e in
+      ap (withChecks (p .rowcount))
+      (tab-ext (setLength (p .rowcount)) (dataByte (unusedZero p)) (dataByte p)
+      (λ o h. data-same (nodes-few p (a .nodes)) (rows-few p (a .rows)) o (omega (arith, length-least (p .rowcount)))))
+
+  -- the buffer is the same with every unused place zero
+  pub unused-ignored : (buffer : List ℕ) → written (unusedZero p) buffer ≡ written p buffer
+  unfolding written unusedZero
+  unused-ignored buffer = rw (refusal-same (length buffer)) (go (eqb (writeRefusal p (length buffer)) 0) refl)
+    where
+      go : (b : Bool) → eqb (writeRefusal p (length buffer)) 0 ≡ b
+          → ifElse (eqb (writeRefusal p (length buffer)) 0) (writeSet (unusedZero p) ++ drop (setLength (p .rowcount)) buffer) buffer
+          ≡ ifElse (eqb (writeRefusal p (length buffer)) 0) (writeSet p ++ drop (setLength (p .rowcount)) buffer) buffer
+      go true e = rw (e, set-same (room p (length buffer) (eqb-true _ _ e) .0))
+      go false e = rw e

@@ -1,0 +1,244 @@
+// A test of the master's batch call. Its input is lists of six event records, each after a byte for the plan and one for the start. Of each it
+// prints what the call answers, the master, and seven replies: a place more than there are events. tests/batches/make.py writes the lists.
+ghost use mathlib.Core.Path.{_≡_};
+ghost use Rattle.machine_batch.specs.Batch.{batchOf, batchReplies};
+use base_bytes::byte_at;
+use base_bytes::number_at;
+use libc::STDIN_FILENO;
+use libc::STDOUT_FILENO;
+use machine_events::EventRecord;
+use machine_events::ReplyRecord;
+use machine_master::Hold;
+use machine_master::Master;
+use machine_master::Phase;
+use machine_state::State;
+use set_plan::NodeEntry;
+use set_plan::Plan;
+use set_plan::Row;
+use set_plan::Times;
+
+// A list's bytes: the plan and the start, then six records of 10.
+const LIST_LENGTH: usize = 62;
+
+struct Ran {
+    refusal: u8,
+    master: Master,
+    replies: [ReplyRecord; 7],
+}
+
+// Arrays by value, lent to the call: whoever calls this one needs no proof by hand.
+fn run_six(plan: Plan, master: Master, events: [EventRecord; 6], replies: [ReplyRecord; 7]) -> Ran
+    ensures { λ r. ⌜ (r .refusal ≡ batchOf plan master events replies .refusal) × (r .master ≡ batchOf plan master events replies .master) × (r .replies ≡ batchReplies plan master events replies) ⌝ }
+{
+    let mut written = replies;
+    let batch = machine_batch::run(plan, master, &events, &mut written);
+    Ran {
+        refusal: batch.refusal,
+        master: batch.master,
+        replies: written,
+    }
+}
+
+fn print(text: &[u8]) {
+    io::write_all(STDOUT_FILENO, text);
+}
+
+fn print_number(number: u64) {
+    print(b" ");
+    io::print_decimal(STDOUT_FILENO, number);
+}
+
+fn print_state(state: State) {
+    match state {
+        State::Normal => print(b" Normal"),
+        State::Standby => print(b" Standby"),
+        State::Sleep => print(b" Sleep"),
+    }
+}
+
+fn print_phase(phase: Phase) {
+    match phase {
+        Phase::Open => print(b" Open"),
+        Phase::Sending => print(b" Sending"),
+        Phase::Withdrawn => print(b" Withdrawn"),
+        Phase::Closing => print(b" Closing"),
+    }
+}
+
+fn print_hold(hold: Hold) {
+    if hold.held {
+        print(b" held");
+    } else {
+        print(b" -");
+    }
+    print_number(hold.age as u64);
+}
+
+fn print_master(master: Master) {
+    let state = master.state;
+    let phase = master.phase;
+    let holds = master.holds;
+    let counts = master.counts;
+    print_state(state);
+    print_phase(phase);
+    if master.permission {
+        print(b" permits");
+    }
+    print_hold(holds[0]);
+    print_hold(holds[1]);
+    print_number(counts[16] as u64);
+    print_number(master.delay as u64);
+    print_number(master.ticks as u64);
+}
+
+fn print_reply(reply: ReplyRecord) {
+    print(b",");
+    print_number(reply.refusal as u64);
+    print_number(reply.node as u64);
+    print_number(reply.command as u64);
+    print_number(reply.lost as u64);
+}
+
+fn print_ran(ran: Ran) {
+    let master = ran.master;
+    let replies = ran.replies;
+    io::print_decimal(STDOUT_FILENO, ran.refusal as u64);
+    print_master(master);
+    print_reply(replies[0]);
+    print_reply(replies[1]);
+    print_reply(replies[2]);
+    print_reply(replies[3]);
+    print_reply(replies[4]);
+    print_reply(replies[5]);
+    print_reply(replies[6]);
+    print(b"\n");
+}
+
+// Two nodes; a row of each, the first with a sequence count, and one of the master.
+fn plan_of(revision: u16, profile: u8, variable: bool) -> Plan {
+    let mut plan = Plan::zero();
+    let mut nodes = plan.nodes;
+    nodes[0] = NodeEntry {
+        address: 1,
+        class: 1,
+        method: 1,
+        reserved: 0,
+    };
+    nodes[1] = NodeEntry {
+        address: 2,
+        class: 1,
+        method: 0,
+        reserved: 0,
+    };
+    let mut rows = plan.rows;
+    rows[0] = Row {
+        reqid: 16,
+        publisher: 0,
+        length: 2,
+        kind: if variable { 3 } else { 1 },
+    };
+    rows[1] = Row {
+        reqid: 17,
+        publisher: 1,
+        length: 3,
+        kind: if variable { 2 } else { 0 },
+    };
+    rows[2] = Row {
+        reqid: 18,
+        publisher: Plan::MASTER,
+        length: 0,
+        kind: 0,
+    };
+    let times = Times {
+        window: 3,
+        stop: 2,
+        sleep: 3,
+        quiet: 4,
+        recovery: 5,
+        space: 6,
+        start: 2,
+    };
+    plan.revision = revision;
+    plan.profile = profile;
+    plan.nodecount = 2;
+    plan.rowcount = 3;
+    plan.times = times;
+    plan.nodes = nodes;
+    plan.rows = rows;
+    plan
+}
+
+// The event record at an offset; numbers of two bytes are big-endian.
+fn event_at(text: &[u8], at: u16) -> EventRecord {
+    let start = at as usize;
+    EventRecord {
+        kind: byte_at(text, start),
+        reqid: byte_at(text, start + 1),
+        result: number_at(text, start + 2),
+        length: number_at(text, start + 4),
+        count: byte_at(text, start + 6),
+        permission: byte_at(text, start + 7),
+        wake: byte_at(text, start + 8),
+        flag: byte_at(text, start + 9),
+    }
+}
+
+// Six records after the bytes of plan and start.
+fn events_of(list: &[u8]) -> [EventRecord; 6] {
+    [
+        event_at(list, 2),
+        event_at(list, 12),
+        event_at(list, 22),
+        event_at(list, 32),
+        event_at(list, 42),
+        event_at(list, 52),
+    ]
+}
+
+// Where a list starts from: 0 the plan's power-on, 1 what the list before it left, 2 a state out of range.
+fn start_of(start: u8, sleeps: bool, left: Master) -> Master {
+    if start == 0 {
+        return Master::power_on(sleeps);
+    }
+    if start == 1 {
+        return left;
+    }
+    Master {
+        delay: 1,
+        ..Master::power_on(true)
+    }
+}
+
+fn run_list(list: &[u8], left: Master) -> Master {
+    let untouched = ReplyRecord {
+        refusal: 9,
+        node: 9,
+        command: 9,
+        lost: 9,
+    };
+    let revision = if byte_at(list, 0) == 1 { 0 } else { 7 };
+    let profile = if byte_at(list, 0) == 2 { 1 } else { 0 };
+    let plan = plan_of(revision, profile, byte_at(list, 0) == 3);
+    let start = start_of(byte_at(list, 1), plan.sleeps(), left);
+    let ran = run_six(plan, start, events_of(list), [untouched; 7]);
+    print_ran(ran);
+    ran.master
+}
+
+fn run_lists(text: &[u8]) {
+    let mut left = Master::power_on(true);
+    let mut at: usize = 0;
+    while at < text.len() {
+        left = run_list(&text[at..], left);
+        if text.len() - at < LIST_LENGTH {
+            return;
+        }
+        at += LIST_LENGTH;
+    }
+}
+
+fn main() {
+    let mut input = io::large_buffer();
+    let count = io::read_full(STDIN_FILENO, &mut input);
+    run_lists(&input[..count]);
+}
