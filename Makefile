@@ -39,11 +39,11 @@ replay: ## a recorded bus: the example recording, needs rt; as run
 	@sh tools/prove replay
 	@cd examples/recording && ../../target/bin/replay < moves
 
-# Layout, proofs, must-fail edits and programs, then the C tests and the comparisons on what was built: the last line is the verdict. The
-# gate's own test first.
+# Layout, proofs, must-fail edits and programs, then the C tests and the comparisons on what was built: a line for each, and the verdict in
+# the last. target/ci.log and target/tests keep all that was said. The gate's own test first.
 test: ## everything, the verdict in the last line, needs rt, gcc, g++, python3; 30 min
 	@sh tools/need test rt gcc g++ python3
-	@sh tests/gate/check.sh
+	@. tests/gate/try.sh && try gate sh tests/gate/check.sh
 	@sh tests/gate/run.sh rt tests/c/run.sh
 
 # The calls and the drill against straightforward C on the same inputs; then the calls on emulated controllers, where the emulator is there.
