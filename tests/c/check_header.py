@@ -4,7 +4,8 @@ Usage: check_header.py, at the repository's root.
 
 Of the header: each `#define CXPI_NAME NUMBER`, and the numbers in its comment, which are a field's limits or an event's length.
 Of LAYOUTS.md: the tables with a column 'In cxpi.h', by their first column: an offset ('5-8'), a length ('201 in all') or a number, or
-several, one for each name. Of specs/: the definitions that a table names; one that is a number must be its row's first."""
+several, one for each name. Of specs/: the definitions that LAYOUTS.md names as 'CRATE/FILE: names', in a table or not; one that is a
+number in a table must be its row's first."""
 import re
 import sys
 
@@ -103,8 +104,15 @@ def check_comment(row, name, numbers, comment):
     return []
 
 
+def check_named(text, read):
+    """What is wrong with the definitions that a text names: each is there."""
+    named = re.findall(r"([a-z_]+/[A-Z]\w+):\s+(\w+(?:,\s+\w+)*)", text)
+    return ["%s has no definition %s" % (file, name) for file, names in named for name in re.split(r",\s+", names)
+            if not re.search(r"\bpub %s\b" % name, read(spec_path(file)))]
+
+
 def check_definitions(tables, read):
-    """What is wrong with the definitions that the tables name: each is there, and one that is a number has the row's."""
+    """What is wrong with the definitions that the tables name: one that is a number has the row's, and each offset stands in one row."""
     wrong, named = [], []
     for row in (row for rows in tables for row in rows):
         for part in filter(None, row.get("Definition", "").split("; ")):
@@ -113,9 +121,7 @@ def check_definitions(tables, read):
             for name in listed(names):
                 named.append((file, name))
                 number = re.search(r"^%s = (%s)$" % (name, NUMBER), text, flags=re.M)
-                if not re.search(r"\bpub %s\b" % name, text):
-                    wrong.append("%s has no definition %s" % (file, name))
-                elif number and int(number[1], 0) != numbers_of(row)[0]:
+                if number and int(number[1], 0) != numbers_of(row)[0]:
                     wrong.append("%s: %s is %s, LAYOUTS.md has %d" % (file, name, number[1], numbers_of(row)[0]))
     for file in OFFSETS:
         for name in re.findall(r"\bpub (\w+)\b", read(spec_path(file))):
@@ -139,6 +145,7 @@ def differences(read):
     for rows in tables:
         wrong += check_tiling(rows)
     wrong += check_names(tables, numbers, comments)
+    wrong += check_named(read(LAYOUTS), read)
     wrong += check_definitions(tables, read)
     wrong += check_stack(read(HEADER), read(STACK))
     return wrong, len(numbers)
