@@ -7,8 +7,8 @@ help:
 	    if (!heads++) printf "%-9s %-62s %-22s %s\n", "make ..", "", "needs", "takes"; \
 	    printf "%-9s %-62s %-22s %s\n", name, $$2, $$3, $$4 }' Makefile
 
-# Document 01's drill: its twelve moves on set T.
-run: ## the drill of document 01: twelve moves on the example set T, needs rt; 4 min first, then no time
+# The example drill, R6.7: its twelve moves on set T.
+run: ## the example drill: twelve moves on set T, needs rt; 4 min first, then no time
 	@sh tools/need run rt
 	@sh tools/prove drill
 	@cd examples/set-t && ../../target/bin/drill < moves
@@ -21,19 +21,19 @@ picture: ## the same as a picture, target/drill.svg, needs rt, python3; as run
 	@python3 tools/picture.py --moves examples/set-t/moves < target/drill.lines > target/drill.svg
 	@echo target/drill.svg
 
-# Document 01's drill up to the sleep ask that is refused, and why the panel is awake.
+# The example drill up to the sleep ask that is refused, and why the panel is awake.
 why: ## six of these moves, and why the panel is still awake, needs rt; as run
 	@sh tools/need why rt
 	@sh tools/prove why
 	@cd examples/set-t && head -n 6 moves | ../../target/bin/why
 
-# The example set T of document 01, in words.
+# The example set T, R1.14, in words.
 show: ## set T in words, needs rt; 2 min first, then no time
 	@sh tools/need show rt
 	@sh tools/prove show
 	@cd examples/set-t && ../../target/bin/show
 
-# The example recording: document 01's drill with the sleep message lost.
+# The example recording: the example drill with the sleep message lost.
 replay: ## a recorded bus: the example recording, needs rt; as run
 	@sh tools/need replay rt
 	@sh tools/prove replay
@@ -64,7 +64,7 @@ firmware: ## the C calls for controllers, target/firmware, needs rt, python3; as
 	@sh firmware/archives.sh
 
 # Makes the test sets, the machines' cases, the lists of events, the requests to a node, the lists of moves, the recorded moves, the drill's
-# scripts, the cases of why and what must be printed of them, and the drill's picture anew, from documents 01 and 02 (needs python3).
+# scripts, the cases of why and what must be printed of them, and the drill's picture anew (needs python3).
 cases: ## the stored cases and what must be printed of them anew, needs python3; 1 s
 	@sh tools/need cases python3
 	python3 tests/sets/make.py

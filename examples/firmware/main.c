@@ -1,8 +1,8 @@
 /* A small firmware host of CXPI network management: one master and its nodes on a bus that is stood in for by function calls.
  *
  * On a real unit the tick is a timer interrupt, the bus is the CXPI driver, and the unit runs the master or one node. Here all of them
- * run in one program. Node 0 is given its address and tells its identity, as on the moulding line; then document 01's twelve moves are
- * made, and after each the line that document 01 gives is printed, and indented what the nodes and the machines sent and commanded, and
+ * run in one program. Node 0 is given its address and tells its identity, as on the moulding line; then the drill's twelve moves (R6.7)
+ * are made, and after each the drill's line is printed, and indented what the nodes and the machines sent and commanded, and
  * after a refused sleep ask why the panel is awake; then a master takes the events of a frame slot in one call. Only the headers and the
  * archive are used; see README.md for how to compile. */
 #include <signal.h>
@@ -12,7 +12,7 @@
 #include "cxpi.h"
 #include "cxpi_text.h"
 
-/* Set T of document 01 as it would stand in flash. */
+/* Set T, R1.14, as it would stand in flash. */
 static const uint8_t set_in_flash[CXPI_SET_LENGTH_ONE] = {
     [0] = 0x50,    [1] = 1,       [3] = 7,   [4] = 1,                                 /* plan block: revision 7, one node */
     [7] = 10,      [9] = 2,       [11] = 3,  [13] = 4,  [15] = 5, [17] = 6, [19] = 1, /* times W, D, S, E, R, P, C */
@@ -264,7 +264,7 @@ static uint32_t ask_for_sleep(void) {
     return refusal;
 }
 
-/* Document 01's twelve moves */
+/* The drill's twelve moves, R6.7 */
 
 typedef enum { MOVE_TICK, MOVE_WAKE_NODE, MOVE_PERMIT_NODE, MOVE_PERMIT_MASTER, MOVE_REQUEST, MOVE_SLEEP, MOVE_SENT } move;
 

@@ -3,8 +3,8 @@
 
 Run at the repository's root. A list is a byte for the plan (0 right, 1 with revision 0, 2 of panels that never sleep, 3 with variable rows: 16
 of kind 3, with a sequence count, and 17 of kind 2, without one), a byte for the start (0 the plan's power-on, 1 what the list before it left, 2 a
-state out of range) and six event records of 10 bytes. What is printed is worked out by hand from documents 01 and 02; nothing here calls the
-product or works a rule out.
+state out of range) and six event records of 10 bytes. What is printed is worked out by hand from the documents of
+docs/SOURCES.md; nothing here calls the product or works a rule out.
 
 The plan: two nodes; row 16 of node 0, length 2, with a sequence count; row 17 of node 1, length 3, without one; row 18 of the master; W 3, D 2,
 C 2. A line has what the call answers; the master's state, phase, `permits`, both nodes' permissions with age, the last count of row 16, the delay

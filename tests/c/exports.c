@@ -1,4 +1,5 @@
-/* Tests each export on right and wrong input, by expectations written by hand from documents 01 and 02 and include/cxpi.h.
+/* Tests each export on right and wrong input, by expectations written by hand from the documents of docs/SOURCES.md and
+ * include/cxpi.h.
  *
  * Every buffer is lent between guard bytes. Each case says what the call returns and which bytes it changes; all others must stay.
  *

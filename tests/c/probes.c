@@ -1,7 +1,7 @@
 /* Probes of the archive by the header's constants alone: what a call leaves is where the header says, in the numbers that it has.
  *
- * Each constant of the header has a probe that fails where it is off by one (check_header_test.py). Sets are made by document 01's
- * offsets, so that nothing here reads what the header's constants wrote.
+ * Each constant of the header has a probe that fails where it is off by one (check_header_test.py). Sets are made by the
+ * offsets of R1.2 to R1.4, so that nothing here reads what the header's constants wrote.
  *
  * Compile: gcc -std=c11 -Wall -Wextra -Werror -pedantic -Iinclude tests/c/probes.c libcxpi.a -o probes */
 #include <stdbool.h>
@@ -41,7 +41,7 @@ static void put_two(uint8_t *bytes, size_t at, uint32_t number) {
     bytes[at + 1] = (uint8_t)number;
 }
 
-/* Sets by document 01: revision 263; W 10, D 2, S 3, E 4, R 5, P 6, C 7 */
+/* Sets by R1.2 to R1.4: revision 263; W 10, D 2, S 3, E 4, R 5, P 6, C 7 */
 
 enum { TIMES = 7, BLOCK = 512 };
 

@@ -71,7 +71,7 @@ compare_long() {
 }
 try compare compare_long
 
-# The independent drill, by document 01's moves.
+# The independent drill, by the moves of R6.7.
 try independent_drill sh $independent/check_drill.sh
 
 # Its lines as a picture.

@@ -1,4 +1,4 @@
-/* Set T of document 01, and its plan record, by hand. */
+/* Set T (R1.14), and its plan record, by hand. */
 #ifndef SET_T_H
 #define SET_T_H
 

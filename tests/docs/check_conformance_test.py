@@ -14,7 +14,7 @@ MISSPELT = [
     ("- **10.7** not applicable: message bytes. A node sets unused bits.\n", "", "entry: of tests 10.7"),
     ("- **clause 7.3.4** ", "- **clause 7.3.5** ", "clause: 7.3.5"),
     ("- **clause 7.3.4** ", "- **clause 7.3.3** ", "first entry: clause 7.3.3"),
-    ("- **clause 7.3.4** Error notification between nodes. Document 01 has none.\n", "", "entry: of clauses 7.3.4"),
+    ("- **clause 7.3.4** Error notification between nodes. No requirement has it.\n", "", "entry: of clauses 7.3.4"),
     # verdicts: one that is none, another one, another reason, an entry without outcome
     ("- **1.1** run. ", "- **1.1** runs. ", "entry: - **1.1** runs."),
     ("- **1.6** partly. ", "- **1.6** run. ", "count: 14 of run, but 15"),

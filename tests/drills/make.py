@@ -2,8 +2,8 @@
 """Writes the drill's test data: the sets and scripts in crates/test_drills/data, crates/test_drills/args and crates/test_drills/stdout, and those of
 crates/drill.
 
-Run at the repository's root. Beside each move stands what it prints by documents 01 and 02; the line's number is put before it.
-Scripts ctc-n.m are the conformance tests of ISO 20794-5 that apply. Nothing here calls the product."""
+Run at the repository's root. Beside each move stands what it prints, by hand from the documents of docs/SOURCES.md; the line's number
+is put before it. Scripts ctc-n.m are the conformance tests of ISO 20794-5 that apply. Nothing here calls the product."""
 import sys
 
 sys.dont_write_bytecode = True
@@ -34,7 +34,7 @@ sets["truck-refused"] = mended(sets["truck"][:5] + b"\2" + sets["truck"][6:])
 sets["short"] = sets["t"][:1023]
 sets["check"] = sets["t"][:511] + b"\0" + sets["t"][512:]
 
-# Document 01's own drill
+# The example drill, R6.7
 script("t", "document-01", """
 wake 0     | S0 0 S 0
 tick       | N0 1 N 0
@@ -240,7 +240,7 @@ tick         | Z0 0 N 0
 tick         | Z0 0 Z 0
 """)
 
-# 4.5: a failed sending; by document 01 the clock stays
+# 4.5: a failed sending; by R3.12 the clock stays
 script("t", "ctc-4.5", """
 wake m       | S0 0 Z 0
 tick         | N0 1 S 0
@@ -273,7 +273,7 @@ tick         | N0 1 N 0
 sleep        | N0 1 N 20
 """)
 
-# 4.7: a failed sending; by document 01 the clock stays
+# 4.7: a failed sending; by R3.12 the clock stays
 script("t", "ctc-4.7", """
 wake m       | S0 0 Z 0
 tick         | N0 1 S 0
@@ -545,7 +545,7 @@ tick          | Z0 0 {Z} 0
 wake 7        | S0 0 {S} 0
 """.lstrip().format(**all_in))
 
-# W-206, panels that never sleep. Document 01's drill: Normal and the clock from the first line on; no sleep message is ever under way
+# W-206, panels that never sleep. The drill of R6.7: Normal and the clock from the first line on; no sleep message is ever under way
 script("truck", "truck-document-01", """
 wake 0     | N0 1 N 0
 tick       | N0 1 N 0

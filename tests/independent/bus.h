@@ -1,6 +1,6 @@
 /* The whole bus of demand 3 over the independent machines: a master and sixteen nodes, recorded moves, and what a move does.
  *
- * Written from document 01, its settled readings and the table of a recorded move alone. */
+ * Written from the documents of docs/SOURCES.md, their settled readings and the table of a recorded move alone. */
 #ifndef BUS_H
 #define BUS_H
 

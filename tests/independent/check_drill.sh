@@ -1,5 +1,5 @@
 #!/bin/sh
-# Builds the independent drill and checks document 01's twelve moves on set T, odd lines and refused sets.
+# Builds the independent drill and checks the twelve moves on set T (R6.7), odd lines and refused sets.
 # Run: sh tests/independent/check_drill.sh (CC chooses the compiler)
 set -eu
 here=$(cd "$(dirname "$0")" && pwd)

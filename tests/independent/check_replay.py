@@ -1,4 +1,4 @@
-"""Runs programs that replay recorded moves on lists worked out by hand from document 01, and compares lines and frames.
+"""Runs programs that replay recorded moves on lists worked out by hand from the documents of docs/SOURCES.md, and compares lines and frames.
 
 Usage: check_replay.py REPLAY STATES
 """
@@ -59,7 +59,7 @@ ASKED_TWO_LINES = ["S0 0 ZZ 0", "N0 1 SS 0"] + 6 * ["N0 1 NN 0"]
 
 CASES = [
     ("no moves", SET_T, [], []),
-    ("document 01's twelve moves", SET_T,
+    ("the drill's twelve moves", SET_T,
      [move(1), TICK, move(3, value=1), PERMIT_MASTER, move(5, value=16), SLEEP_ASK, move(5, value=16), SLEEP_ASK, SENT, TICK, TICK, TICK],
      ["S0 0 S 0", "N0 1 N 0", "N0 1 N 0", "N0 1 N 0", "N0 1 N 0", "N0 1 N 20", "N0 1 N 0", "N1 1 N 0", "N3 1 N 0", "N3 1 N 0", "Z0 0 N 0",
       "Z0 0 Z 0"]),

@@ -1,8 +1,8 @@
-/* Document 01's drill over the independent implementation: reads plan.set in the working folder and moves from standard input. With the
- * argument why it prints document 02's line more after the moves (W-205, W-206).
+/* The drill (R6.1 to R6.7) over the independent implementation: reads plan.set in the working folder and moves from standard input. With the
+ * argument why it prints a line more after the moves (R6.8).
  *
  * Compile: gcc -std=c11 -O2 -Wall -Wextra -Werror -pedantic tests/independent/drill.c tests/independent/reference.c -o drill
- * Run:     ./drill [why] < moves (tests/independent/check_drill.sh runs document 01's twelve) */
+ * Run:     ./drill [why] < moves (tests/independent/check_drill.sh runs the twelve of R6.7) */
 #include <inttypes.h>
 #include <stdio.h>
 #include <string.h>

@@ -1,5 +1,5 @@
-/* Document 01 in plain C, mended by W-204, with W-205 to W-207: the reader and writer of release sets, the master machine and the node
- * machine.
+/* Sections 1 to 4 of the requirements in plain C: the reader and writer of release sets, the master machine and the node machine, with W-204
+ * to W-207.
  *
  * Compile: gcc -std=c11 -O2 -Wall -Wextra -Werror -pedantic -c tests/independent/reference.c */
 #include "reference.h"

@@ -1,7 +1,7 @@
-/* Documents 01 and 02 in plain C, written from the documents alone: release sets, the master machine and the node machine.
+/* Release sets, the master machine and the node machine in plain C, written from the documents of docs/SOURCES.md alone.
  *
- * It serves as the independent check of the product and as the baseline of its speed. Values are as document 01 numbers them; every
- * field is wide enough to hold a wrong value, which is then refused by number. */
+ * It serves as the independent check of the product and as the baseline of its speed. Values are as the requirements number
+ * them; every field is wide enough to hold a wrong value, which is then refused by number. */
 #ifndef REFERENCE_H
 #define REFERENCE_H
 
@@ -26,7 +26,7 @@ typedef struct {
     uint8_t zero;
 } reference_node_entry;
 
-/* Document 01's two kinds of row and W-207's: whether its answers carry a sequence count, and whether they may be shorter than planned. */
+/* The kinds of row (R1.5): whether its answers carry a sequence count, and whether they may be shorter than planned. */
 enum { REFERENCE_FIXED, REFERENCE_FIXED_COUNTED, REFERENCE_VARIABLE, REFERENCE_VARIABLE_COUNTED };
 
 typedef struct {
@@ -36,7 +36,7 @@ typedef struct {
     uint8_t kind;
 } reference_row;
 
-/* Document 01's seven times, in the order of the set. */
+/* The seven times (R1.2), in the order of the set. */
 typedef struct {
     uint16_t window;   /* W */
     uint16_t stop;     /* D */
@@ -61,7 +61,7 @@ enum { REFERENCE_NORMAL, REFERENCE_STANDBY, REFERENCE_SLEEP };
 
 enum { REFERENCE_OPEN, REFERENCE_SENDING, REFERENCE_WITHDRAWN, REFERENCE_CLOSING };
 
-/* Document 02's causes: why a node's permission is not held. */
+/* The causes (R3.13): why a node's permission is not held. */
 enum { REFERENCE_CAUSE_NEW, REFERENCE_CAUSE_REFUSED, REFERENCE_CAUSE_AGED, REFERENCE_CAUSE_DAMAGED, REFERENCE_CAUSE_WAKE };
 
 typedef struct {
@@ -111,7 +111,7 @@ typedef struct {
     uint8_t node; /* that 20 names */
 } reference_master_reply;
 
-/* Document 02's reasons why the bus stays awake, first before last but for W-206's. */
+/* The reasons (R3.15) why the bus stays awake, first before last but for W-206's. */
 enum {
     REFERENCE_REASON_NONE,
     REFERENCE_REASON_SLEEP,

@@ -1,4 +1,4 @@
-/* The functions of include/cxpi.h on packed bytes, over the independent implementation of document 01.
+/* The functions of include/cxpi.h on packed bytes, over the independent implementation.
  *
  * Compile: gcc -std=c11 -O2 -Wall -Wextra -Werror -pedantic -Iinclude -c tests/independent/reference_packed.c */
 #include "reference_packed.h"

@@ -1,8 +1,8 @@
 #!/usr/bin/env python3
 """Writes the cases of both machines and what must be printed of each: crates/test_machines/stdin and stdout.
 
-Run at the repository's root. Each case gives a state, an event and, by hand from documents 01 and 02, what the step changes. Nothing
-here calls the product or works a rule out: what is not named as changed stays as given.
+Run at the repository's root. Each case gives a state, an event and, by hand from the documents of docs/SOURCES.md, what the step
+changes. Nothing here calls the product or works a rule out: what is not named as changed stays as given.
 
 Plan 0: two nodes, node 0 polled, node 1 event-triggered; W 10, D 2, S 3, E 4, R 5, P 6, C 2; row 16 of node 0, length 2, with a
 sequence count; row 17 of node 1, length 3, without one; row 18 of the master. Plan 1: the same with all times 1. Plan 2: the same
@@ -52,7 +52,7 @@ def send_result(sent):
 
 
 def master(s, event, shows, command="nothing", refusal=0, node=0, lost=0, plan=0, wrong=None, **changes):
-    """A hold is None or its age. `wrong` puts numbers into places of the case, for states that document 01 does not know."""
+    """A hold is None or its age. `wrong` puts numbers into places of the case, for states that R3.1 does not know."""
     held = lambda age: [0, 0] if age is None else [1, age]
     word = lambda age, cause: ("- 0 " if age is None else "held %d " % age) + (CAUSES[cause] if cause <= WAKE else "%d " % cause)
     numbers = [0, plan, STATES.index(s["state"]), PHASES.index(s["phase"]), s["permits"]]
@@ -174,7 +174,7 @@ master(dict(SENDING, permits=1, **BOTH), send_result(0), "failed: Open", phase="
 master(dict(WITHDRAWN, **BOTH), send_result(1), "sent after a call-back: Open", phase="Open")
 master(dict(WITHDRAWN, **BOTH), send_result(0), "failed after a call-back: Open", phase="Open")
 
-# Causes (document 02, W-205): each after each other, and where they end
+# Causes (R3.13, R3.14): each after each other, and where they end
 for old in range(5):
     before, name = dict(OPEN, cause0=old, cause1=DAMAGED), ["none", "refused", "aged", "damaged", "wake"][old]
     master(before, answer(16, 2, 0), name + ", then refused", last16=0, cause0=REFUSED)
@@ -221,7 +221,7 @@ for length in [0, 2, 4, 255, 259]:
 master(dict(OPEN, last16=1, **BOTH), answer(16, 2, 3, 1), FIXED + "row 16 in length 2 of 2", lost=1, last16=3, hold0=0)
 master(dict(OPEN, last17=1, **BOTH), answer(17, 3, 3, 1), FIXED + "row 17 in length 3 of 3", hold1=0)
 
-# A variable row (document 02, W-207) accepts any length up to its own, and none above
+# A variable row (R1.5) accepts any length up to its own, and none above
 VARIABLE = "variable: "
 for length in [0, 1, 2]:
     master(dict(OPEN, last16=1, **BOTH), answer(16, length, 3, 1), VARIABLE + "row 16 in length %d of 2" % length, plan=7, lost=1, last16=3,
@@ -260,7 +260,7 @@ master(OPEN, TICK, "kind 4", refusal=7, plan=8)
 master(OPEN, answer(16, 2, 0, 1), "kind 4 of another row", refusal=7, plan=8)
 master(dict(OPEN, hold0=11), answer(17, 1, 4), "kind 4: 7 before 11 and 15", refusal=7, plan=8)
 
-# Panels that never sleep (document 02, W-206): in Normal and Open all goes on as ever
+# Panels that never sleep (R3.1, R3.12): in Normal and Open all goes on as ever
 NEVER = "never sleeps: "
 master(dict(OPEN, ticks=LAST, hold0=9, hold1=10), TICK, NEVER + "tick", plan=5, ticks=0, hold0=10, hold1=None, cause1=AGED)
 master(dict(OPEN, **BOTH), answer(99, 2, 0, 1), NEVER + "ReqId not in the plan", refusal=12, plan=5)
@@ -468,7 +468,7 @@ node(AWAKE, ask(16), "polled, not heard", refusal=21)
 node(dict(AWAKE, heard=1, wake=1, count16=1), ask(16), "polled, heard", sent(0, 1, 1), wake=0, count16=2)
 node(dict(AWAKE, permits=1, count17=3), ask(17), "event-triggered, not heard", sent(1, 0, 3), me=1, count17=0)
 
-# Variable rows (document 02, W-207): a node sends as ever, and counts for each
+# Variable rows (R1.5): a node sends as ever, and counts for each
 node(dict(AWAKE, permits=1, wake=1, count16=2), request(16), VARIABLE + "its own row: heard and sent", sent(1, 1, 2), plan=7, heard=1, wake=0,
      count16=3)
 node(dict(AWAKE, count17=3), ask(17), VARIABLE + "without a count counts too", sent(0, 0, 3), plan=7, me=1, count17=0)
@@ -476,7 +476,7 @@ node(AWAKE, ask(16), VARIABLE + "another's row", refusal=12, plan=7, me=1)
 node(AWAKE, DARK, "kind 4", refusal=7, plan=8)
 node(AWAKE, DARK, "kind 4: 7 before 11", refusal=7, plan=8, me=2)
 
-# Panels that never sleep (document 02, W-206): the error at E without sleeping, a wake bit and a permission that are only set
+# Panels that never sleep (R4.7, R4.11, R4.12): the error at E without sleeping, a wake bit and a permission that are only set
 SHOWS = dict(AWAKE, error=1, quiet=4)
 MIXED = dict(error=1, heard=1, quiet=3, count16=2, count17=3)
 node(dict(SHOWS, wake=1, heard=1, count16=2), CLOCK, NEVER + "clock: error off, quiet 0", plan=5, error=0, quiet=0)

@@ -2,7 +2,7 @@
 """Writes the lists of moves of crates/test_moves and what must be printed of each: data, args and stdout.
 
 Run at the repository's root. A list is moves as bytes, 16 for each (crates/bus_moves/src/lib.rt has the table). What is printed is
-worked out by hand from documents 01 and 02; nothing here calls the product or works a rule out.
+worked out by hand from the documents of docs/SOURCES.md; nothing here calls the product or works a rule out.
 
 The plan: two nodes, each with a row of length 2, ReqId 1 with a sequence count and 2 without one; W 3, D 2, S 2, E 1, R 2, P 3, C 1. Of each
 list is printed what it comes to under the plan; in a line more under the same plan of panels that never sleep (W-206), where no machine leaves

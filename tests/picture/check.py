@@ -1,4 +1,4 @@
-"""Checks tools/picture.py: the picture of document 01's drill is the stored one; pictures of 12 and of 500 lines, of all that a line may
+"""Checks tools/picture.py: the picture of the example drill is the stored one; pictures of 12 and of 500 lines, of all that a line may
 hold, are XML with a number for each move and a mark for each refusal, within the picture and apart; lines of other kinds are refused.
 
 Usage: check.py, at the repository's root."""
@@ -68,11 +68,11 @@ def check_made(count, nodes):
 
 def main():
     with open("crates/drill/stdout") as file:
-        document_01 = file.read()
+        printed = file.read()
     with open("tests/picture/drill.svg") as file:
         stored = file.read()
-    if drawn(document_01, "--moves", "examples/set-t/moves").stdout != stored:
-        sys.exit("the picture of document 01's drill is not tests/picture/drill.svg")
+    if drawn(printed, "--moves", "examples/set-t/moves").stdout != stored:
+        sys.exit("the picture of the example drill is not tests/picture/drill.svg")
     ElementTree.fromstring(stored)
     for count, nodes in ((12, 1), (12, 16), (500, 1), (500, 16)):
         check_made(count, nodes)
@@ -82,7 +82,7 @@ def main():
         refused = drawn(lines)
         assert refused.returncode == 1 and not refused.stdout, "%r is drawn" % lines
     assert drawn("1 S0 0 S 0\n", "--moves", "examples/set-t/moves").returncode == 1, "twelve moves for one line are drawn"
-    print("picture: document 01's drill as stored; 12 and 500 lines of 1 and 16 nodes")
+    print("picture: the example drill as stored; 12 and 500 lines of 1 and 16 nodes")
 
 
 if __name__ == "__main__":

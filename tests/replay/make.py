@@ -1,8 +1,8 @@
 #!/usr/bin/env python3
 """Writes recorded moves and what must be written of them: data/plan.set, stdin and stdout of crates/replay and crates/test_states.
 
-Run at the repository's root. Beside each record stands what it prints, or the fields that it changes, by hand from documents 01 and 02.
-Nothing here calls the product or works a rule out."""
+Run at the repository's root. Beside each record stands what it prints, or the fields that it changes, by hand from the
+documents of docs/SOURCES.md. Nothing here calls the product or works a rule out."""
 import os
 import sys
 
@@ -46,7 +46,7 @@ answers = [
     (request, "N0 1 N 0"),
 ]
 lines = [
-    # document 01's drill, nothing lost
+    # the drill of R6.7, nothing lost
     (move(1), "S0 0 S 0"),
     (TICK, "N0 1 N 0"),
     (permits, "N0 1 N 0"),

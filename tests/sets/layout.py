@@ -1,4 +1,4 @@
-"""A release set's bytes, from document 01; byte 5 of the plan block and the last byte of a row from document 02, W-206 and W-207."""
+"""A release set's bytes (R1.2 to R1.6), from the documents of docs/SOURCES.md."""
 
 
 def check(block):

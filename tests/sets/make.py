@@ -1,9 +1,9 @@
 #!/usr/bin/env python3
-"""Makes the sets that the programs are tested on, and what must be printed of each, from documents 01 and 02 alone.
+"""Makes the sets that the programs are tested on, and what must be printed of each, from the documents of docs/SOURCES.md alone.
 
 Run at the repository's root. It writes crates/test_sets/data/*.set, crates/test_sets/args, crates/test_sets/stdout,
-crates/show/data/plan.set, crates/show/stdout and examples/set-t/plan.set. The numbers and words below are document 01's; nothing here
-calls the product."""
+crates/show/data/plan.set, crates/show/stdout and examples/set-t/plan.set. The numbers and words below are the documents'; nothing
+here calls the product."""
 import os
 import sys
 

@@ -1,8 +1,8 @@
 #!/usr/bin/env python3
 """Writes the cases of the program why (W-205 to W-207): sets and scripts in tests/why/data, tests/why/args and tests/why/stdout.
 
-Run at the repository's root. Beside each move stands what it prints by document 01; the words after it in a case are those of the line
-why by document 02. Nothing here calls the product."""
+Run at the repository's root. Beside each move stands what it prints, by hand from the documents of docs/SOURCES.md; the
+words after it in a case are those of the line why (R6.8). Nothing here calls the product."""
 import sys
 
 sys.dont_write_bytecode = True
@@ -41,7 +41,7 @@ cases.release_set("truck", [2, 2, 3, 4, 5, 6, 1], [POLLED], ONE, profile=1)
 cases.release_set("truck-two", [10, 2, 3, 12, 5, 4, 1], [POLLED, EVENT], TWO, profile=1)
 cases.release_set("truck-sixteen", [10, 2, 3, 12, 5, 4, 1], [POLLED, EVENT] * 8, SIXTEEN, profile=1)
 
-# Document 01's own drill, after each of its moves
+# The drill of R6.7, after each of its moves
 TWELVE = """
 wake 0     | S0 0 S 0
 tick       | N0 1 N 0
