@@ -1,5 +1,5 @@
 #!/bin/sh
-# Holds docs/TRACE.md, docs/REQUIREMENTS.md and docs/CONFORMANCE.md to the repository; builds the archive and runs the C tests against it: each export under
+# Holds the documents and their links to the repository; builds the archive and runs the C tests against it: each export under
 # sanitizers, the comparisons with the independent implementation, the headers and the symbols, the firmware and the station example; the
 # drill, the explanation and the replay of recorded moves against independent ones; the drill's picture; and the archives for controllers. By
 # gcc, and by clang where it is present. A line for each test; target/tests has what it said.
@@ -15,7 +15,7 @@ checked="-O1 -g -fsanitize=address,undefined -fno-sanitize-recover=all"
 mkdir -p $out
 
 # Needs nothing built, so first.
-for document in trace conformance requirements; do
+for document in trace conformance requirements links; do
     try $document python3 tests/docs/check_$document.py
     try ${document}_test python3 tests/docs/check_${document}_test.py
 done
