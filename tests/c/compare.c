@@ -101,7 +101,7 @@ static void random_rows(reference_plan *plan) {
     uint32_t sizes[4] = {between(plan->node_count, 127), 100, 101, 127};
     plan->row_count = (uint16_t)sizes[percent(70) ? 0 : below(4)];
     uint32_t left = plan->row_count;
-    for (uint32_t reqid = 1; reqid <= 127; reqid++) {
+    for (uint32_t reqid = 1; reqid < CXPI_REQIDS; reqid++) {
         if (below(128 - reqid) < left) {
             plan->rows[plan->row_count - left] =
                 (reference_row){(uint8_t)reqid, percent(15) ? REFERENCE_MASTER_PUBLISHER : (uint8_t)below(plan->node_count),
@@ -538,6 +538,9 @@ static uint8_t random_flag(uint32_t share) {
     return percent(1) ? random_byte() : percent(share);
 }
 
+/* Room for any event, and for bytes that are none. */
+enum { EVENT_ROOM = 12 };
+
 /* Mostly a length that the row accepts, else one at the edges of what it does. */
 static uint32_t random_length(const reference_row *row) {
     uint32_t own = row->length;
@@ -618,10 +621,10 @@ static size_t spoil_event(uint8_t *event, size_t length) {
         return length;
     }
     if (percent(50)) {
-        return below(12);
+        return below(EVENT_ROOM);
     }
-    random_bytes(event, 12);
-    return percent(50) ? below(12) : between(1, 2);
+    random_bytes(event, EVENT_ROOM);
+    return percent(50) ? below(EVENT_ROOM) : between(1, 2);
 }
 
 /* One step as it is lent. */
@@ -631,7 +634,7 @@ typedef struct {
     uint8_t number;
     uint8_t state[LENT_ROOM];
     size_t state_length;
-    uint8_t event[16];
+    uint8_t event[EVENT_ROOM];
     size_t event_length;
     size_t reply_length;
 } step;
@@ -782,7 +785,7 @@ static struct cxpi_master_event batch[MOST_EVENTS];
 static struct cxpi_master_reply subject_replies[MOST_REPLIES], reference_replies[MOST_REPLIES];
 
 static void random_event_record(const reference_plan *plan, struct cxpi_master_event *record) {
-    uint8_t event[16], *bytes = (uint8_t *)record;
+    uint8_t event[EVENT_ROOM], *bytes = (uint8_t *)record;
     random_bytes(bytes, sizeof *record);
     size_t length = random_master_event(plan, event);
     record->kind = event[0];
@@ -819,7 +822,7 @@ static size_t event_bytes(const struct cxpi_master_event *record, uint8_t *event
 
 /* Says whether steps event by event leave the state and the replies of the reference's list. */
 static bool steps_agree(const step *made, size_t count) {
-    uint8_t event[16], reply[CXPI_MASTER_REPLY_LENGTH];
+    uint8_t event[EVENT_ROOM], reply[CXPI_MASTER_REPLY_LENGTH];
     bool same = true;
     lent_fill(&subject_state, made->state, made->state_length);
     for (size_t place = 0; place < count; place++) {

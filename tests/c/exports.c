@@ -401,7 +401,7 @@ static void expect_damaged_two(const char *what, const edit *edits, uint32_t res
 static void test_two_blocks(void) {
     uint8_t plan[CXPI_PLAN_LENGTH];
     uint8_t set[CXPI_SET_LENGTH_TWO];
-    for (unsigned rows = 1; rows <= 127; rows++) {
+    for (unsigned rows = 1; rows <= CXPI_MOST_ROWS; rows++) {
         uint16_t length = rows > 100 ? 1536 : 1024;
         make_rows(rows, plan, set);
         memset(plan + 83 + 4 * rows, 0, 4 * (127 - rows));
@@ -828,7 +828,7 @@ static void make_plan_of_sixteen(uint8_t *plan) {
     memset(plan, 0, CXPI_PLAN_LENGTH);
     memcpy(plan, plan_t, 19);
     apply(EDITS({2, 16}, {4, 16}), plan);
-    for (uint8_t node = 0; node < 16; node++) {
+    for (uint8_t node = 0; node < CXPI_MOST_NODES; node++) {
         const uint8_t entry[4] = {(uint8_t)(node + 1), 1, 0, 0};
         const uint8_t row[4] = {(uint8_t)(node + 1), node, 0, 0};
         memcpy(plan + 19 + 4 * node, entry, 4);
@@ -840,12 +840,12 @@ static void make_plan_of_sixteen(uint8_t *plan) {
 static void test_named_nodes(void) {
     uint8_t plan[CXPI_PLAN_LENGTH];
     make_plan_of_sixteen(plan);
-    for (uint8_t named = 0; named < 16; named++) {
+    for (uint8_t named = 0; named < CXPI_MOST_NODES; named++) {
         for (uint8_t above = 0; above < 2; above++) {
             uint8_t state[CXPI_MASTER_LENGTH];
             call made = master_call(NONE, SLEEP);
             memcpy(state, master_with(EDITS({M_OWN, 1})), sizeof state);
-            for (uint8_t node = 0; node < 16; node++) {
+            for (uint8_t node = 0; node < CXPI_MOST_NODES; node++) {
                 state[M_HELD_0 + 3 * node] = node < named || (node > named && above);
             }
             made.plan = plan;
@@ -944,13 +944,13 @@ static void test_reasons(void) {
 static void test_reasons_of_sixteen(void) {
     uint8_t plan[CXPI_PLAN_LENGTH];
     make_plan_of_sixteen(plan);
-    for (uint8_t named = 0; named <= 16; named++) {
+    for (uint8_t named = 0; named <= CXPI_MOST_NODES; named++) {
         for (uint8_t cause = 0; cause <= 4; cause++) {
             for (uint8_t above = 0; above < 2; above++) {
                 uint8_t state[CXPI_MASTER_LENGTH];
                 call made = master_call(NONE, TICK);
                 memcpy(state, master_with(EDITS({M_OWN, 1})), sizeof state);
-                for (uint8_t node = 0; node < 16; node++) {
+                for (uint8_t node = 0; node < CXPI_MOST_NODES; node++) {
                     state[M_HELD_0 + 3 * node] = node < named || (node > named && above);
                     state[M_CAUSE_0 + node] = node == named ? cause : node > named && !above ? 4 - cause : 0;
                 }
@@ -1091,7 +1091,7 @@ static void test_master_range(void) {
         master_state_is("delay in Closing below D", value < 2, EDITS({M_PHASE, 3}, {M_DELAY, byte}));
         master_state_is("high byte of the delay", value == 0, EDITS({M_STATE, 1}, {M_DELAY - 1, byte}));
         master_state_is("tick number", true, EDITS({5, byte}, {6, byte}, {7, byte}, {8, byte}));
-        for (size_t node = 0; node < 16; node++) {
+        for (size_t node = 0; node < CXPI_MOST_NODES; node++) {
             size_t held = M_HELD_0 + 3 * node;
             master_state_is("held", value == 0 || (value == 1 && node < 2), EDITS({held, byte}));
             master_state_is("age of one not held", value == 0, EDITS({held + 2, byte}));
@@ -1104,7 +1104,7 @@ static void test_master_range(void) {
             master_state_is("cause in Standby", value == 0, EDITS({M_STATE, 1}, {cause, byte}));
             master_state_is("cause in Sleep", value == 0, EDITS({M_STATE, 2}, {cause, byte}));
         }
-        for (size_t reqid = 0; reqid < 128; reqid++) {
+        for (size_t reqid = 0; reqid < CXPI_REQIDS; reqid++) {
             master_state_is("last count", value <= 4, EDITS({M_COUNTS + reqid, byte}));
         }
     }
@@ -1135,7 +1135,7 @@ static void test_node_range(void) {
             }
         }
         node_state_is("standby count up to 2R", value <= 10, EDITS({N_STATE, 1}, {N_CALLER, 1}, {N_STANDBY, byte}));
-        for (size_t reqid = 0; reqid < 128; reqid++) {
+        for (size_t reqid = 0; reqid < CXPI_REQIDS; reqid++) {
             node_state_is("sequence count", value <= 3, EDITS({N_COUNTS + reqid, byte}));
         }
         node_refuses("node number", byte < 2 ? 2 : byte, NONE, BYTES(1), 11);

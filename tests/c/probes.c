@@ -79,14 +79,14 @@ static void make_set(void) {
 static void make_largest_set(void) {
     make_set();
     set[4] = 16;
-    for (uint8_t node = 0; node < 16; node++) {
+    for (uint8_t node = 0; node < CXPI_MOST_NODES; node++) {
         const uint8_t entry[4] = {(uint8_t)(node + 1), 1, 0, 0};
         memcpy(set + 32 + 4 * node, entry, 4);
     }
     memcpy(set + 2 * BLOCK, set + BLOCK, 8);
     set[BLOCK + 4] = 100;
     set[2 * BLOCK + 4] = 27;
-    for (uint8_t row = 0; row < 127; row++) {
+    for (uint8_t row = 0; row < CXPI_MOST_ROWS; row++) {
         const uint8_t bytes[4] = {(uint8_t)(row + 1), row % 16, row, 0};
         memcpy(set + (row < 100 ? BLOCK + 8 + 4 * row : 2 * BLOCK + 8 + 4 * (row - 100)), bytes, 4);
     }

@@ -15,7 +15,7 @@ checked="-O1 -g -fsanitize=address,undefined -fno-sanitize-recover=all"
 mkdir -p $out
 
 # Needs nothing built, so first.
-for document in trace conformance requirements links; do
+for document in trace conformance requirements links limits; do
     try $document python3 tests/docs/check_$document.py
     try ${document}_test python3 tests/docs/check_${document}_test.py
 done
