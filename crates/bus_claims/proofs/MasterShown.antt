@@ -33,7 +33,7 @@ use Rattle.machine_master.specs.Ticks.{older, olderAt, allOlder, agedOut, agedO
 use Rattle.machine_master.specs.Waking.{wakeUpBy, wakeUpStep, permissionStep}
 use Rattle.machine_master.proofs.Clock.{call-back-state}
 use Rattle.machine_master.proofs.InRange.{Fits}
-use Rattle.machine_master.proofs.InRun.{NoneHeld}
+use Rattle.machine_master.proofs.InRun.{holdAt, NoneHeld}
 use Rattle.bus.specs.declared.Passed.{Passed}
 use Rattle.bus.specs.Passed.{ticked, asked, masterPermits, answered, sending, slept}
 use Rattle.bus_history.specs.Terms.{none, since, isAnswerOf, isWakeUp, isSending, isStop, hasResult, isSent, isCallBack, clockLeft, sinceOn, lastAnswer}
@@ -41,15 +41,12 @@ use Rattle.bus_claims.proofs.Causes as Causes
 use Rattle.bus_claims.proofs.Causes.{holdBy, numberBy, numberIs}
 use Rattle.bus_claims.proofs.Phases.{phaseShown, backPhase, call-back-phase, back-shown, pulse-shown, stop-shown, awaits, afterResult, result-shown}
 
-abbrev holdOf : Master → ℕ → Hold
-holdOf m i = getD (m .holds) i noHold
-
 abbrev causeAt : Master → ℕ → ℕ
 causeAt m i = getD (m .causes) i causeNew
 
 -- node i as some moves show it
 pub record Node (window : ℕ) (m : Master) (moves : List Passed) (i : ℕ) : Type 0 where
-  pub hold : holdOf m i ≡ holdBy window (lastAnswer i moves) (since (isAnswerOf i) moves)
+  pub hold : holdAt (m .holds) i ≡ holdBy window (lastAnswer i moves) (since (isAnswerOf i) moves)
   pub cause : causeAt m i ≡ numberBy window (lastAnswer i moves) (since (isAnswerOf i) moves)
 
 pub record Shown (p : Plan) (m : Master) (past : List Passed) : Type 0 where
@@ -95,13 +92,13 @@ open-outside n t m f e = go (m .state) (m .phase) e (f .phase)
     go State.Sleep Phase.Closing e h = no-way h
 
 -- nothing is held, so each permission is as at power-on
-none-there : (n window : ℕ) (m : Master) → holdsRight n window (m .holds) ≡ true → NoneHeld (m .holds) → (i : ℕ) → i < 16 → holdOf m i ≡ noHold
+none-there : (n window : ℕ) (m : Master) → holdsRight n window (m .holds) ≡ true → NoneHeld (m .holds) → (i : ℕ) → i < 16 → holdAt (m .holds) i ≡ noHold
 unfolding holdsRight
-none-there n window m right none i small = λ j. record { held = none i small j; age = eqb-true (holdOf m i .age) 0 (rw (none i small) at (all-at (holdRightAt n window (m .holds)) 16 right i small)) j }
+none-there n window m right none i small = λ j. record { held = none i small j; age = eqb-true (holdAt (m .holds) i .age) 0 (rw (none i small) at (all-at (holdRightAt n window (m .holds)) 16 right i small)) j }
 
 -- a node that a move is nothing to
 node-still : (window : ℕ) (m n : Master) (moves : List Passed) (e : Passed) (i : ℕ) → isAnswerOf i e ≡ false → e .tick ≡ false → isWakeUp e ≡ false
-    → holdOf n i ≡ holdOf m i → causeAt n i ≡ causeAt m i → Node window m moves i → Node window n (e ∷ moves) i
+    → holdAt (n .holds) i ≡ holdAt (m .holds) i → causeAt n i ≡ causeAt m i → Node window m moves i → Node window n (e ∷ moves) i
 node-still window m n moves e i a t w h c v =
     record {
       hold = h ∙ v .hold ∙ sym (rw a (Causes.hold-still window e (since (isAnswerOf i) moves) (lastAnswer i moves) t w));
@@ -110,15 +107,15 @@ node-still window m n moves e i a t w h c v =
 
 -- a node at a wake-up
 module _ (m : Master) (i : ℕ) (small : i < 16) where
-  dropped-hold : holdOf (dropAll m) i ≡ noHold
+  dropped-hold : holdAt ((dropAll m) .holds) i ≡ noHold
   dropped-hold = getD-replicate 16 i noHold noHold small
 
-  dropped-cause : causeAt (dropAll m) i ≡ woken (holdOf m i) (causeAt m i)
+  dropped-cause : causeAt (dropAll m) i ≡ woken (holdAt (m .holds) i) (causeAt m i)
   unfolding allWoken
   dropped-cause = getD-tab 16 (wokenAt (m .holds) (m .causes)) i causeNew small
 
 node-woken : (window : ℕ) (m n : Master) (moves : List Passed) (e : Passed) (i : ℕ) → i < 16 → isAnswerOf i e ≡ false → e .tick ≡ false → isWakeUp e ≡ true
-    → holdOf n i ≡ holdOf (dropAll m) i → causeAt n i ≡ causeAt (dropAll m) i → Node window m moves i → Node window n (e ∷ moves) i
+    → holdAt (n .holds) i ≡ holdAt ((dropAll m) .holds) i → causeAt n i ≡ causeAt (dropAll m) i → Node window m moves i → Node window n (e ∷ moves) i
 node-woken window m n moves e i small a t w h c v =
     record {
       hold = h ∙ dropped-hold m i small ∙ sym (rw a (Causes.hold-woken window e (since (isAnswerOf i) moves) (lastAnswer i moves) w));
@@ -138,7 +135,7 @@ node-older window m n moves e i small on a t w h c v =
           ∙ sym (rw a (Causes.hold-older window e (since (isAnswerOf i) moves) (lastAnswer i moves) t w));
       cause =
           ap (λ (l : List ℕ). getD l i causeNew) c ∙ getD-tab 16 (agedOutAt (isNormal (m .state)) window (m .holds) (m .causes)) i causeNew small
-          ∙ ap (λ (b : Bool). agedOut b window (holdOf m i) (causeAt m i)) on ∙ ap₂ (agedOut true window) (v .hold) (v .cause)
+          ∙ ap (λ (b : Bool). agedOut b window (holdAt (m .holds) i) (causeAt m i)) on ∙ ap₂ (agedOut true window) (v .hold) (v .cause)
           ∙ sym (rw a (Causes.number-older window e (since (isAnswerOf i) moves) (lastAnswer i moves) t w));
     }
 
@@ -374,10 +371,10 @@ module _ (p : Plan) (few : p .nodecount ≤ 16) (past : List Passed) where
           small : i < 16
           small = omega (arith, few, l)
 
-          holds : holdOf (callBack (dropAll m)) i ≡ noHold
+          holds : holdAt ((callBack (dropAll m)) .holds) i ≡ noHold
           holds = ap (λ (x : List Hold). getD x i noHold) (call-back-holds (dropAll m)) ∙ dropped-hold m i small
 
-          causes : causeAt (callBack (dropAll m)) i ≡ woken (holdOf m i) (causeAt m i)
+          causes : causeAt (callBack (dropAll m)) i ≡ woken (holdAt (m .holds) i) (causeAt m i)
           causes = ap (λ (x : List ℕ). getD x i causeNew) (call-back-causes (dropAll m)) ∙ dropped-cause m i small
 
           by : (b : Bool) → Node (p .times .window) m (ifElse b [] (e₀ ∷ sinceOn past)) i → Node (p .times .window) (callBack (dropAll m)) (ifElse b [] (e₁ ∷ sinceOn past)) i
@@ -464,7 +461,7 @@ module _ (p : Plan) (few : p .nodecount ≤ 16) (past : List Passed) where
       calm q = sym (rw (backs ∙ ap not q))
 
       -- its publisher, by the answer alone
-      own : (n : Master) (h : Hold) (c : ℕ) → holdOf n j ≡ h → causeAt n j ≡ c
+      own : (n : Master) (h : Hold) (c : ℕ) → holdAt (n .holds) j ≡ h → causeAt n j ≡ c
           → ifElse (isWhole row a && not (a .wake) && a .permission) (Causes.given 0) noHold ≡ h → numberIs (isWhole row a) (a .wake) (a .permission) true true true ≡ c
           → Node (p .times .window) n (e ∷ sinceOn past) j
       own n h c x y f g =

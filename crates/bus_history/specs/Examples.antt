@@ -5,6 +5,7 @@ use mathlib.Core.List.{List, [], _∷_, _++_}
 use lib.ListN.{replicate}
 use Rattle.set_plan.specs.declared.Plan.{Plan}
 use Rattle.set_plan.specs.declared.Times.{Times}
+use Rattle.set_plan.specs.Limits.{maxNodes}
 use Rattle.set_plan.specs.Record.{zeroEntry, zeroRow}
 use Rattle.bus.specs.declared.Act.{Act}
 use Rattle.bus.specs.declared.Bus.{Bus}
@@ -55,10 +56,10 @@ neverPlan =
 
 -- a bus that loses nothing, and one that carries nothing but a pulse to some nodes
 abbrev pub lossless : Bus
-lossless = record { reached = replicate 16 true; hearing = replicate 16 true; master = true; fate = Fate.Whole 2 }
+lossless = record { reached = replicate maxNodes true; hearing = replicate maxNodes true; master = true; fate = Fate.Whole 2 }
 
 abbrev pub deaf : Bool → Bus
-deaf hearing = record { reached = replicate 16 false; hearing = replicate 16 hearing; master = false; fate = Fate.Lost }
+deaf hearing = record { reached = replicate maxNodes false; hearing = replicate maxNodes hearing; master = false; fate = Fate.Lost }
 
 abbrev pub does : Act → Move
 does act = record { act = act; bus = lossless }
@@ -86,7 +87,7 @@ asking = askingAfter 0
 
 -- the message's result reaches a set of nodes
 abbrev pub result : Bool → Bool → Move
-result sent reached = record { act = Act.SendResult sent; bus = record { reached = replicate 16 reached; hearing = replicate 16 true; master = true; fate = Fate.Whole 2 } }
+result sent reached = record { act = Act.SendResult sent; bus = record { reached = replicate maxNodes reached; hearing = replicate maxNodes true; master = true; fate = Fate.Whole 2 } }
 
 -- it goes out: the clock stops at the D-th tick
 abbrev pub stopping : List Move
@@ -98,7 +99,7 @@ takingBack m = asking ++ (m ∷ result true true ∷ ticks 3 lossless)
 
 -- a damaged answer, and one of a node whose application has said no since
 abbrev pub damaged : Move
-damaged = record { act = Act.Request 1; bus = record { reached = replicate 16 true; hearing = []; master = false; fate = Fate.Damaged (record { result = 1; length = 2; count = 0; permission = true; wake = false }) } }
+damaged = record { act = Act.Request 1; bus = record { reached = replicate maxNodes true; hearing = []; master = false; fate = Fate.Damaged (record { result = 1; length = 2; count = 0; permission = true; wake = false }) } }
 
 abbrev pub refusing : List Move
 refusing = asking ++ (does (Act.NodePermission 1 false) ∷ does (Act.Request 2) ∷ result true true ∷ ticks 3 lossless)

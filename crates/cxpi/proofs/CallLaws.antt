@@ -27,6 +27,7 @@ use Rattle.machine_master.specs.Range as MasterRange
 use Rattle.machine_master.specs.Step as MasterStep
 use Rattle.machine_master.proofs.Refusals as MasterRefusals
 use Rattle.packed_master.specs.States.{isMaster, masterOf}
+use Rattle.machine_events.specs.Events.{noEvent}
 use Rattle.packed_master.specs.Events as MasterEvents
 use Rattle.packed_master.proofs.StateTrips.{none-in-range}
 use Rattle.machine_node.specs.Range as NodeRange
@@ -52,7 +53,7 @@ pub no-node-state : (sleeps : Bool) (t : Times) (s : List ℕ) → isNode s ≡ 
 no-node-state sleeps t s e = rw e (no-node sleeps t)
 
 -- "bytes that are no event 15"
-pub no-master-event : MasterStep.eventRight MasterEvents.noEvent ≡ false
+pub no-master-event : MasterStep.eventRight noEvent ≡ false
 no-master-event = refl
 
 pub no-node-event : NodeStep.eventRight NodeEvents.noEvent ≡ false

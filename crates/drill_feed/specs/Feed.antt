@@ -61,7 +61,7 @@ abbrev pub room : ℕ
 room = 32
 
 abbrev pub emptyHeld : Held
-emptyHeld = record { bytes = replicate 32 0; count = 0 }
+emptyHeld = record { bytes = replicate room 0; count = 0 }
 
 abbrev pub holdByte : Held → ℕ → Held
 holdByte held b = ifElse (ltb (held .count) room) (record { bytes = set (held .bytes) (held .count) b; count = held .count + 1 }) held

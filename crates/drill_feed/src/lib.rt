@@ -15,7 +15,7 @@ use set_plan::Plan;
 
 // The first bytes of a line that has not ended. Longer lines are no moves, so the others are not missed.
 pub struct Held {
-    pub bytes: [u8; 32],
+    pub bytes: [u8; Held::ROOM],
     pub count: usize,
 }
 
@@ -34,11 +34,14 @@ pub struct Fed {
 }
 
 impl Held {
+    // As many bytes of a line are held.
+    pub const ROOM: usize = 32;
+
     fn empty() -> Held
         ensures { λ r. ⌜ r ≡ emptyHeld ⌝ }
     {
         Held {
-            bytes: [0; 32],
+            bytes: [0; Held::ROOM],
             count: 0,
         }
     }
@@ -51,7 +54,7 @@ impl Held {
         let mut count = self.count;
         let mut i: usize = 0;
         while i < part.len() {
-            if 32 <= count {
+            if Held::ROOM <= count {
                 return Held { bytes, count };
             }
             bytes[count] = part[i];
@@ -66,7 +69,7 @@ impl Held {
     {
         let bytes = self.bytes;
         let count = self.count;
-        if 32 < count {
+        if Held::ROOM < count {
             return drill_line::parse(&bytes, nodecount);
         }
         drill_line::parse(&bytes[..count], nodecount)

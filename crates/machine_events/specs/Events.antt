@@ -8,7 +8,7 @@ use Rattle.machine_master.specs.declared.Answer.{Answer}
 use Rattle.machine_master.specs.declared.Event.{Event}
 use Rattle.machine_events.specs.declared.EventRecord.{EventRecord}
 
--- for a record that is "no event": one that each step refuses as 15, since its ReqId is above 127
+-- for a record or bytes that are "no event": one that each step refuses as 15, since its ReqId is above 127
 abbrev pub noEvent : Event
 noEvent = Event.Answer (record { reqid = 255; result = 0; length = 0; count = 0; permission = false; wake = false })
 
@@ -24,7 +24,8 @@ plainEvent kind =
 abbrev pub flaggedEvent : ℕ → ℕ → Event
 flaggedEvent kind flag =
     ifElse (ltb flag 2)
-    (ifElse (eqb kind 4) (Event.Permission (flagOf flag)) (Event.SendResult (flagOf flag)))
+    (ifElse (eqb kind 4) (Event.Permission (flagOf flag))
+    (ifElse (eqb kind 6) (Event.SendResult (flagOf flag)) noEvent))
     noEvent
 
 -- 1 an answer

@@ -33,7 +33,7 @@ pub struct ReplyRecord {
 }
 
 // Refused as 15 by each step.
-fn no_event() -> Event
+pub fn no_event() -> Event
     ensures { λ r. ⌜ r ≡ noEvent ⌝ }
 {
     Event::Answer(Answer {
@@ -47,7 +47,7 @@ fn no_event() -> Event
 }
 
 // The event of a kind that has nothing else.
-fn plain_event(kind: u8) -> Event
+pub fn plain_event(kind: u8) -> Event
     ensures { λ r. ⌜ r ≡ plainEvent kind ⌝ }
 {
     if kind == 0 {
@@ -66,19 +66,22 @@ fn plain_event(kind: u8) -> Event
 }
 
 // The event of a kind that has a flag.
-fn flagged_event(kind: u8, flag: u8) -> Event
+pub fn flagged_event(kind: u8, flag: u8) -> Event
     ensures { λ r. ⌜ r ≡ flaggedEvent kind flag ⌝ }
 {
     if flag < 2 {
         if kind == 4 {
             return Event::Permission(flag == 1);
         }
-        return Event::SendResult(flag == 1);
+        if kind == 6 {
+            return Event::SendResult(flag == 1);
+        }
+        return no_event();
     }
     no_event()
 }
 
-fn answer_event(event: EventRecord) -> Event
+pub fn answer_event(event: EventRecord) -> Event
     ensures { λ r. ⌜ r ≡ answerEvent event ⌝ }
 {
     if (event.permission < 2) & (event.wake < 2) {

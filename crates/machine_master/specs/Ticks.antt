@@ -1,6 +1,6 @@
 -- The master's ticks.
 use Prim.Native.Nat.{ℕ, _+_, _%_, _^_}
-use mathlib.Core.Bool.{Bool, true, _&&_}
+use mathlib.Core.Bool.{Bool, true, false, _&&_}
 use mathlib.Core.List.{List}
 use lib.Dec.{leb, ltb}
 use lib.ListN.{getD}
@@ -58,25 +58,23 @@ toNormal m = inPhase Phase.Open (inState State.Normal (withCounts noCounts (with
 abbrev pub toSleep : Master → Master
 toSleep m = inPhase Phase.Open (inState State.Sleep (letAllGo (withCauses noCauses m)))
 
--- "Standby: at the C-th tick, command clock on"
-abbrev pub standbyTick : ℕ → Master → Reply
-standbyTick start m =
-    ifElse (ltb (m .delay + 1) start) (silent (withDelay (m .delay + 1) m))
-    (commands Command.ClockOn (toNormal m))
+-- "command clock on, go Normal", and "command clock off, go Sleep"
+abbrev pub switchClock : Bool → Master → Reply
+switchClock true m = commands Command.ClockOn (toNormal m)
+switchClock false m = commands Command.ClockOff (toSleep m)
 
--- "Closing: at the D-th, command clock off"
-abbrev pub closingTick : ℕ → Master → Reply
-closingTick stop m =
-    ifElse (ltb (m .delay + 1) stop) (silent (withDelay (m .delay + 1) m))
-    (commands Command.ClockOff (toSleep m))
+-- a tick of a delay, and the last one
+abbrev pub delayTick : ℕ → Bool → Master → Reply
+delayTick last on m = ifElse (ltb (m .delay + 1) last) (silent (withDelay (m .delay + 1) m)) (switchClock on m)
 
+-- "Standby: at the C-th tick"; "Closing: at the D-th"
 abbrev pub tickBy : Times → State → Phase → Master → Reply
 tickBy t State.Sleep phase m = silent m
-tickBy t State.Standby phase m = standbyTick (t .start) m
+tickBy t State.Standby phase m = delayTick (t .start) true m
 tickBy t State.Normal Phase.Open m = silent m
 tickBy t State.Normal Phase.Sending m = silent m
 tickBy t State.Normal Phase.Withdrawn m = silent m
-tickBy t State.Normal Phase.Closing m = closingTick (t .stop) m
+tickBy t State.Normal Phase.Closing m = delayTick (t .stop) false m
 
 abbrev pub tickStep : Times → Master → Reply
 tickStep t m = tickBy t (m .state) (m .phase) (aged (t .window) m)

@@ -59,10 +59,13 @@ state-is sleeps nodecount t s e = go (isMaster s) refl
     go true h = h
     go false h = no-way (sym (none-in-range sleeps nodecount t) ∙ (rw h at e))
 
--- the bytes before the counts
-front-long : (m : Master) → length (masterHead m ++ holdsBytes (m .holds)) ≡ 57
+pub holds-long : (holds : List Hold) → length (holdsBytes holds) ≡ 48
 unfolding holdsBytes
-front-long m = length-append (masterHead m) (holdsBytes (m .holds)) ∙ rw (length-tab 48 (holdByteAt (m .holds)))
+holds-long holds = length-tab 48 (holdByteAt holds)
+
+-- the bytes before the counts
+pub front-long : (m : Master) → length (masterHead m ++ holdsBytes (m .holds)) ≡ 57
+front-long m = length-append (masterHead m) (holdsBytes (m .holds)) ∙ rw (holds-long (m .holds))
 
 -- the bytes before the causes
 counts-end : (m : Master) → length (m .counts) ≡ 128 → length (masterHead m ++ holdsBytes (m .holds) ++ m .counts) ≡ 185

@@ -6,18 +6,12 @@ use lib.Seq.{sets}
 use lib.Dec.{ltb}
 use Rattle.base_lists.specs.Bounded.{ifElse}
 use Rattle.machine_master.specs.declared.Command.{Command}
+use Rattle.machine_events.specs.Replies.{commandNumber}
 use Rattle.packed_master.specs.Offsets.{replyLength}
-
--- 0 nothing, 1 clock on, 2 clock off, 3 send the sleep message
-abbrev pub commandByte : Command → ℕ
-commandByte Command.Nothing = 0
-commandByte Command.ClockOn = 1
-commandByte Command.ClockOff = 2
-commandByte Command.SleepMessage = 3
 
 -- the command, the answers lost before this one, and the node that 20 names
 abbrev pub replyBytes : Command → ℕ → ℕ → List ℕ
-replyBytes command lost node = commandByte command ∷ lost ∷ node ∷ []
+replyBytes command lost node = commandNumber command ∷ lost ∷ node ∷ []
 
 -- a reply buffer after a call: bytes past the reply stay, and so does a buffer that is too short
 abbrev pub replied : Command → ℕ → ℕ → List ℕ → List ℕ

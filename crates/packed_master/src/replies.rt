@@ -1,20 +1,10 @@
 // What a step of the master gives back, as bytes.
 ghost use mathlib.Core.Path.{_≡_};
-ghost use Rattle.packed_master.specs.Replies.{commandByte, replied};
+ghost use Rattle.packed_master.specs.Replies.{replied};
 use crate::offsets::REPLY_LENGTH;
 use base_bytes::put;
+use machine_events::command_number;
 use machine_master::Command;
-
-fn command_byte(command: Command) -> u8
-    ensures { λ r. ⌜ r ≡ commandByte command ⌝ }
-{
-    match command {
-        Command::Nothing => 0,
-        Command::ClockOn => 1,
-        Command::ClockOff => 2,
-        Command::SleepMessage => 3,
-    }
-}
 
 // Puts a reply at the front of a buffer that has room for it.
 pub fn put_reply(buffer: &mut [u8], command: Command, lost: u8, node: u8)
@@ -23,5 +13,5 @@ pub fn put_reply(buffer: &mut [u8], command: Command, lost: u8, node: u8)
     if buffer.len() < REPLY_LENGTH {
         return;
     }
-    put(buffer, 0, &[command_byte(command), lost, node]);
+    put(buffer, 0, &[command_number(command), lost, node]);
 }

@@ -26,7 +26,7 @@ use Rattle.machine_master.specs.Answers.{lostAfter, counted}
 use Rattle.machine_master.specs.Range.{holdRightAt, holdsRight}
 use Rattle.machine_master.specs.Ticks.{older, olderAt, allOlder, agedOutAt, allAgedOut, aged}
 use Rattle.packed_master.specs.States.{masterHead, holdBytes, holdByteAt, holdsBytes, holdsOf, causesOf, masterBytes, masterFrom}
-use Rattle.packed_master.proofs.StateTrips.{master-back}
+use Rattle.packed_master.proofs.StateTrips.{master-back, holds-long, front-long}
 use Rattle.packed_master_steps.specs.InPlace.{isNormalAt, agedHolds, agedNodes, ticked, agedBytes, lostBefore, answerKept}
 use Rattle.packed_master_steps.proofs.Parts.{sets-front, sets-back, sets-before, sets-past, sets-inside}
 
@@ -39,13 +39,6 @@ pub record Sized (m : Master) : Type 0 where
 abbrev withTicks : ℕ → Master → Master
 withTicks ticks m =
     record { state = m .state; phase = m .phase; permission = m .permission; holds = m .holds; causes = m .causes; counts = m .counts; delay = m .delay; ticks = ticks }
-
-holds-long : (holds : List Hold) → length (holdsBytes holds) ≡ 48
-unfolding holdsBytes
-holds-long holds = length-tab 48 (holdByteAt holds)
-
-front-long : (m : Master) → length (masterHead m ++ holdsBytes (m .holds)) ≡ 57
-front-long m = length-append (masterHead m) (holdsBytes (m .holds)) ∙ rw (holds-long (m .holds))
 
 -- the bytes before the causes
 counts-long : (m : Master) → length (masterHead m ++ holdsBytes (m .holds) ++ m .counts) ≡ 57 + length (m .counts)

@@ -36,6 +36,12 @@ returns-2 c =
       eq-eqb _ _ (c .before .before .before .if2 .taken),
     )
 
+byte-at-requires-4 : tie.Need-byte-at-requires-4
+byte-at-requires-4 c κs = search needs
+
+answer-from-requires : tie.Need-answer-from-requires
+answer-from-requires c κs = search needs
+
 answer-event-requires : tie.Need-answer-event-requires
 answer-event-requires c κs = search needs
 
@@ -43,9 +49,11 @@ returns-3 : tie.Need-returns-3
 returns-3 c =
     rw (
       c .answer-event .ensures,
-      ne-eqb _ _ (c .before .before .before .if1 .left),
-      ne-eqb _ _ (c .before .before .if2 .left),
-      eq-eqb _ _ (c .before .if3 .taken),
+      c .before .answer-from .ensures,
+      ← c .before .before .before .byte-at4 .ensures,
+      ne-eqb _ _ (c .before .before .before .before .before .if1 .left),
+      ne-eqb _ _ (c .before .before .before .before .if2 .left),
+      c .before .before .if3 .taken,
     )
 
 no-event-requires : tie.Need-no-event-requires
@@ -55,9 +63,10 @@ returns-4 : tie.Need-returns-4
 returns-4 c =
     rw (
       c .no-event .ensures,
-      ne-eqb _ _ (c .before .before .before .if1 .left),
-      ne-eqb _ _ (c .before .before .if2 .left),
-      ne-eqb _ _ (c .before .if3 .left),
+      ← c .before .before .byte-at4 .ensures,
+      ne-eqb _ _ (c .before .before .before .before .if1 .left),
+      ne-eqb _ _ (c .before .before .before .if2 .left),
+      c .before .if3 .left,
     )
 
 pub event-of-spec : {M : Type 1} → statement M
@@ -71,6 +80,8 @@ event-of-spec =
     byte-at-requires-3
     flagged-event-requires
     returns-2
+    byte-at-requires-4
+    answer-from-requires
     answer-event-requires
     returns-3
     no-event-requires

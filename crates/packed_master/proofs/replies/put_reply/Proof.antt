@@ -7,8 +7,8 @@ use Rattle.packed_master.proofs.replies.put_reply.Tie as tie
 returns : tie.Need-returns
 returns c = rw (lt-ltb _ _ (c .if1 .taken))
 
-command-byte-requires : tie.Need-command-byte-requires
-command-byte-requires c κs = search needs
+command-number-requires : tie.Need-command-number-requires
+command-number-requires c κs = search needs
 
 slice-aggregate-put : tie.Need-slice-aggregate-put
 slice-aggregate-put c = search needs
@@ -23,11 +23,11 @@ returns-2 : tie.Need-returns-2
 returns-2 c =
     rw (
       c .before .before .put .ensures,
-      c .before .before .before .before .command-byte .ensures,
+      c .before .before .before .before .command-number .ensures,
       le-ltb _ _ (c .before .before .before .before .before .before .if1 .left),
     )
 
 pub put-reply-spec : {M : Type 1} → statement M
 put-reply-spec =
     tie.close
-    (tie.spec returns command-byte-requires slice-aggregate-put put-requires same-length returns-2)
+    (tie.spec returns command-number-requires slice-aggregate-put put-requires same-length returns-2)
