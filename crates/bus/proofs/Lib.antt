@@ -1,6 +1,3 @@
-pub mod EachOne
 mod Lengths
 mod Publishing
-pub mod Resting
 mod Ticking
-pub mod WhoCalls

@@ -12,12 +12,12 @@ use Rattle.machine_node.specs.declared.Reply.{Reply}
 use Rattle.machine_node.specs.Sending.{requestStep}
 use Rattle.bus.specs.declared.Bus.{Bus}
 use Rattle.bus.specs.declared.Delivered.{Delivered}
-use Rattle.bus.specs.declared.Message.{Message}
+use Rattle.bus_nodes.specs.declared.Message.{Message}
 use Rattle.bus.specs.declared.Moved.{Moved}
 use Rattle.bus.specs.declared.World.{World}
 use Rattle.bus.specs.Messages.{unanswered, deliver, publish}
-use Rattle.bus.specs.Pulses.{reachAll}
-use Rattle.bus.specs.World.{nodeAt}
+use Rattle.bus_nodes.specs.Pulses.{reachAll}
+use Rattle.bus_nodes.specs.Nodes.{nodeAt}
 
 module _ (count : ℕ) (row : Row) (bus : Bus) (w : World) where
   -- what the request does to nodes of which some are reached, after the publisher's reply

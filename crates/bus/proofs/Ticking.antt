@@ -10,10 +10,12 @@ use Rattle.machine_master.specs.Ticks.{tickStep}
 use Rattle.bus.specs.declared.Bus.{Bus}
 use Rattle.bus.specs.declared.Moved.{Moved}
 use Rattle.bus.specs.declared.Passed.{Passed}
-use Rattle.bus.specs.declared.Ticked.{Ticked}
+use Rattle.bus_nodes.specs.declared.Ticked.{Ticked}
 use Rattle.bus.specs.declared.World.{World}
-use Rattle.bus.specs.Pulses.{anyCalled, spread}
-use Rattle.bus.specs.Ticks.{tickNodes, tickAfter, tickMove}
+use Rattle.bus_nodes.specs.Pulses.{anyCalled}
+use Rattle.bus.specs.Pulses.{spread}
+use Rattle.bus_nodes.specs.Ticks.{tickNodes}
+use Rattle.bus.specs.Ticks.{tickAfter, tickMove}
 use Rattle.bus.specs.Passed.{ticked}
 
 module _ (sleeps : Bool) (t : Times) (count : ℕ) (bus : Bus) (w : World) {reply : Reply} {clock off called : Bool} {nodes : Ticked} {passed : Passed}

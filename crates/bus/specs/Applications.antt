@@ -7,12 +7,14 @@ use Rattle.machine_node.specs.declared.Reply.{Reply}
 use Rattle.machine_node.specs.Waking as NodeWaking
 use Rattle.machine_master.specs.Waking as MasterWaking
 use Rattle.bus.specs.declared.Bus.{Bus}
-use Rattle.bus.specs.declared.Callers.{Callers}
+use Rattle.bus_nodes.specs.declared.Callers.{Callers}
 use Rattle.bus.specs.declared.Moved.{Moved}
 use Rattle.bus.specs.declared.World.{World}
-use Rattle.bus.specs.Pulses.{withCaller, anyCalled, spread}
+use Rattle.bus_nodes.specs.Pulses.{withCaller, anyCalled}
+use Rattle.bus.specs.Pulses.{spread}
 use Rattle.bus.specs.Passed.{asked, masterPermits, nodePermits}
-use Rattle.bus.specs.World.{nodeAt, withMaster, withNode, stays}
+use Rattle.bus_nodes.specs.Nodes.{nodeAt}
+use Rattle.bus.specs.World.{withMaster, withNode, stays}
 
 -- 11: a "node number out of range"
 abbrev pub ofNode : ℕ → ℕ → World → Moved → Moved

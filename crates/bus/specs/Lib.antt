@@ -1,10 +1,8 @@
-pub mod Each
 pub mod Messages
 pub mod Moves
 pub mod Applications
 pub mod Passed
 pub mod Pulses
 pub mod Range
-pub mod Resting
 pub mod Ticks
 pub mod World

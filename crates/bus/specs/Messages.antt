@@ -27,14 +27,15 @@ use Rattle.bus.specs.declared.Bus.{Bus}
 use Rattle.bus.specs.declared.Arrival.{Arrival}
 use Rattle.bus.specs.declared.Delivered.{Delivered}
 use Rattle.bus.specs.declared.Fate.{Fate}
-use Rattle.bus.specs.declared.Message.{Message}
+use Rattle.bus_nodes.specs.declared.Message.{Message}
 use Rattle.bus.specs.declared.Moved.{Moved}
 use Rattle.bus.specs.declared.Passed.{Passed}
 use Rattle.bus.specs.declared.World.{World}
 use Rattle.bus.specs.Applications.{ofNode}
-use Rattle.bus.specs.Pulses.{reachAll}
+use Rattle.bus_nodes.specs.Pulses.{reachAll}
 use Rattle.bus.specs.Passed.{nothing, answered, sending, slept}
-use Rattle.bus.specs.World.{nodeAt, withMaster, withNodes, stays}
+use Rattle.bus_nodes.specs.Nodes.{nodeAt}
+use Rattle.bus.specs.World.{withMaster, withNodes, stays}
 
 -- "damaged (result not 0, ReqId kept, count still 0 to 3)"
 abbrev pub fateRight : Fate → Bool

@@ -13,7 +13,8 @@ use Rattle.bus.specs.Messages.{requestMove, sendAskMove, sleepAskMove, s
 use Rattle.bus.specs.Applications.{nodeWakeAsk, masterWakeAsk, nodePermission, masterPermission}
 use Rattle.bus.specs.Range.{worldInRange}
 use Rattle.bus.specs.Ticks.{tickMove}
-use Rattle.bus.specs.World.{nodesUsed, stays}
+use Rattle.bus_nodes.specs.Nodes.{nodesUsed}
+use Rattle.bus.specs.World.{stays}
 
 -- "Moves are: a tick; an ask to wake or a permission, a node's or the master's; a request; a node's ask to send; a sleep ask; a send result"
 abbrev pub actBy : Plan → World → Bus → Act → Moved

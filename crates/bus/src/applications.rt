@@ -4,13 +4,13 @@ ghost use Prim.Native.Nat.{_≤_};
 ghost use Rattle.set_plan.specs.Limits.{maxNodes};
 ghost use Rattle.bus.specs.Applications.{nodeWakeAsk, masterWakeAsk, nodePermission, masterPermission};
 use crate::Bus;
-use crate::Callers;
 use crate::Moved;
 use crate::Passed;
 use crate::World;
-use crate::pulses::any_called;
-use crate::pulses::with_caller;
 use crate::stays;
+use bus_nodes::Callers;
+use bus_nodes::any_called;
+use bus_nodes::with_caller;
 
 impl World {
     pub(crate) fn node_wake_ask(self, sleeps: bool, count: u8, node: u8, bus: Bus) -> Moved

@@ -1,11 +1,11 @@
 // The master and its nodes on a bus: what a move does to them.
 ghost use mathlib.Core.Path.{_≡_};
-ghost use Rattle.bus.specs.World.{powerOn, stays, nodesUsed};
+ghost use Rattle.bus.specs.World.{powerOn, stays};
 ghost use Rattle.bus.specs.Moves.{worldAct, worldStep};
+use bus_nodes::nodes_used;
 use machine_master::Answer;
 use machine_master::Master;
 use machine_node::Node;
-use set_plan::Lookup;
 use set_plan::Plan;
 use set_plan::Row;
 use set_plan::plan_refusal;
@@ -122,27 +122,6 @@ pub struct Moved {
     pub passed: Passed,
 }
 
-// The nodes that sent a wake-up pulse in a move.
-pub enum Callers {
-    Nobody,
-    One(u8),
-    Several,
-}
-
-// What can reach several nodes.
-pub enum Message {
-    Pulse(Callers),
-    // a request, with what the plan has for its ReqId
-    Request(Lookup),
-    SleepMessage,
-}
-
-// The nodes after a tick, and those of them that sent a pulse in it.
-pub struct Ticked {
-    pub nodes: [Node; Plan::NODES],
-    pub callers: Callers,
-}
-
 // What becomes of a publisher's reply at the master.
 pub struct Delivered {
     pub master: Master,
@@ -158,16 +137,6 @@ pub fn stays(world: World, refusal: u8) -> Moved
         world,
         refusal,
         passed: Passed::nothing(),
-    }
-}
-
-fn nodes_used(nodecount: u8) -> u8
-    ensures { λ r. ⌜ r ≡ nodesUsed nodecount ⌝ }
-{
-    if (nodecount as usize) < Plan::NODES {
-        nodecount
-    } else {
-        Plan::NODES as u8
     }
 }
 

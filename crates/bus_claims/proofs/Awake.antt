@@ -33,19 +33,22 @@ use Rattle.machine_master.proofs.Awake as MasterAwake
 use Rattle.bus.specs.declared.Act.{Act}
 use Rattle.bus.specs.declared.Arrival.{Arrival}
 use Rattle.bus.specs.declared.Bus.{Bus}
-use Rattle.bus.specs.declared.Callers.{Callers}
+use Rattle.bus_nodes.specs.declared.Callers.{Callers}
 use Rattle.bus.specs.declared.Delivered.{Delivered}
 use Rattle.bus.specs.declared.Fate.{Fate}
-use Rattle.bus.specs.declared.Message.{Message}
+use Rattle.bus_nodes.specs.declared.Message.{Message}
 use Rattle.bus.specs.declared.Move.{Move}
 use Rattle.bus.specs.declared.Moved.{Moved}
 use Rattle.bus.specs.declared.World.{World}
 use Rattle.bus.specs.Messages.{messageRefusal, judgedMessage, carried, arrive, deliver, deliveredIn, publishFound, sendAskBy, sendingBy, sleepAskMove, resultAfter}
 use Rattle.bus.specs.Moves.{actBy, worldAct}
 use Rattle.bus.specs.Applications.{nodeWakeAsk, nodePermission}
-use Rattle.bus.specs.Pulses.{withCaller, anyCalled, receiveIf, reachAll, spread}
-use Rattle.bus.specs.Ticks.{tickedNodes, tickCallers, tickMove}
-use Rattle.bus.specs.World.{powerOn, nodesUsed, noNode, nodeAt, stays}
+use Rattle.bus_nodes.specs.Pulses.{withCaller, anyCalled, receiveIf, reachAll}
+use Rattle.bus.specs.Pulses.{spread}
+use Rattle.bus_nodes.specs.Ticks.{tickedNodes, tickCallers}
+use Rattle.bus.specs.Ticks.{tickMove}
+use Rattle.bus_nodes.specs.Nodes.{nodesUsed, noNode, nodeAt}
+use Rattle.bus.specs.World.{powerOn, stays}
 use Rattle.bus_history.specs.Run.{Run, then, runFrom, run, start}
 use Rattle.bus_history.specs.Terms.{none, isStop}
 use Rattle.bus_claims.proofs.EachNode.{Each, over, one, of-node, heard}

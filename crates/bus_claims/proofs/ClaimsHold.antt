@@ -44,21 +44,23 @@ use Rattle.machine_master.proofs.InRange.{Fits, act-fits}
 use Rattle.bus.specs.declared.Act.{Act}
 use Rattle.bus.specs.declared.Arrival.{Arrival}
 use Rattle.bus.specs.declared.Bus.{Bus}
-use Rattle.bus.specs.declared.Callers.{Callers}
+use Rattle.bus_nodes.specs.declared.Callers.{Callers}
 use Rattle.bus.specs.declared.Fate.{Fate}
-use Rattle.bus.specs.declared.Message.{Message}
+use Rattle.bus_nodes.specs.declared.Message.{Message}
 use Rattle.bus.specs.declared.Move.{Move}
 use Rattle.bus.specs.declared.World.{World}
 use Rattle.bus.specs.Messages.{fateRight, messageRefusal, judgedMessage, sentLength, carried, arrive, deliver, deliveredIn, publishFound, sendAskBy, sendingBy}
 use Rattle.bus.specs.Moves.{actBy, worldAct}
 use Rattle.bus.specs.Applications.{wakeAskBy, permissionBy}
-use Rattle.bus.specs.Pulses.{withCaller, anyCalled, reachAll, spread}
-use Rattle.bus.specs.Ticks.{tickedNodes, tickCallers}
+use Rattle.bus_nodes.specs.Pulses.{withCaller, anyCalled, reachAll}
+use Rattle.bus.specs.Pulses.{spread}
+use Rattle.bus_nodes.specs.Ticks.{tickedNodes, tickCallers}
 use Rattle.bus.specs.declared.Delivered.{Delivered}
 use Rattle.bus.specs.declared.Moved.{Moved}
 use Rattle.bus.specs.declared.Passed.{Passed}
 use Rattle.bus.specs.Passed.{ticked, asked, answered}
-use Rattle.bus.specs.World.{nodesUsed, nodeAt, stays}
+use Rattle.bus_nodes.specs.Nodes.{nodesUsed, nodeAt}
+use Rattle.bus.specs.World.{stays}
 use Rattle.bus_claims.specs.Claims.{settlingTime, Settles, Wakes, SleepsAndWakes, StaysAwake, ClaimsBy, Claims}
 use Rattle.bus_history.specs.Run.{Run, then, runFrom, run, start}
 use Rattle.bus_history.specs.Terms.{nodePermitted}

@@ -14,15 +14,17 @@ use Rattle.machine_node.specs.declared.Node.{Node}
 use Rattle.machine_node.specs.Waking.{pulseStep}
 use Rattle.machine_master.specs.declared.Master.{Master}
 use Rattle.bus.specs.declared.Bus.{Bus}
-use Rattle.bus.specs.declared.Callers.{Callers}
-use Rattle.bus.specs.declared.Message.{Message}
+use Rattle.bus_nodes.specs.declared.Callers.{Callers}
+use Rattle.bus_nodes.specs.declared.Message.{Message}
 use Rattle.bus.specs.declared.Moved.{Moved}
 use Rattle.bus.specs.declared.World.{World}
-use Rattle.bus.specs.Each.{eachTo}
+use Rattle.bus_nodes.specs.Each.{eachTo}
 use Rattle.bus.specs.Applications.{ofNode}
-use Rattle.bus.specs.Pulses.{anyCalled, otherCalled, receiveIf, reachAll, spread}
-use Rattle.bus.specs.World.{nodesUsed, noNode, nodeAt, stays}
-use Rattle.bus.proofs.EachOne.{each-length, each-get}
+use Rattle.bus_nodes.specs.Pulses.{anyCalled, otherCalled, receiveIf, reachAll}
+use Rattle.bus.specs.Pulses.{spread}
+use Rattle.bus_nodes.specs.Nodes.{nodesUsed, noNode, nodeAt}
+use Rattle.bus.specs.World.{stays}
+use Rattle.bus_nodes.proofs.EachOne.{each-length, each-get}
 
 pub record Each (n : ℕ) (Q : ℕ → Node → Type 0) (nodes : List Node) : Type 0 where
   pub size : length nodes ≡ 16

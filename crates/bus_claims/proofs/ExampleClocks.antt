@@ -14,7 +14,7 @@ use Rattle.set_plan.specs.Rules.{planRefusal}
 use Rattle.machine_node.specs.declared.Node.{Node}
 use Rattle.bus.specs.declared.Move.{Move}
 use Rattle.bus.specs.declared.Passed.{Passed}
-use Rattle.bus.specs.World.{nodeAt}
+use Rattle.bus_nodes.specs.Nodes.{nodeAt}
 use Rattle.bus_claims.specs.Claims.{ClockFor, SettlesAfter, settlingTime, WakesAfter, wakingTime, SleepsAndWakes, ClaimsBy}
 use Rattle.bus_history.specs.Run.{run}
 use Rattle.bus_history.specs.Terms.{every, none, ticksIn, leavesOn, leavesOff, isAsk, reaches}

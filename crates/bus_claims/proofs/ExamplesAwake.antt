@@ -18,7 +18,7 @@ use Rattle.machine_reason.specs.Reasons.{explainedBy, refused}
 use Rattle.bus.specs.declared.Act.{Act}
 use Rattle.bus.specs.declared.Move.{Move}
 use Rattle.bus.specs.Moves.{worldAct}
-use Rattle.bus.specs.World.{nodeAt}
+use Rattle.bus_nodes.specs.Nodes.{nodeAt}
 use Rattle.bus_history.specs.Examples.{plan, neverPlan, lossless, does, ticks, permitting, answering, stopping}
 use Rattle.bus_history.specs.Run.{run}
 use Rattle.bus_history.specs.Terms.{none, isStop}

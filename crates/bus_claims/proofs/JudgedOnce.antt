@@ -23,9 +23,10 @@ use Rattle.machine_master.proofs.InRange as MasterRange
 use Rattle.bus.specs.declared.Move.{Move}
 use Rattle.bus.specs.declared.World.{World}
 use Rattle.bus.specs.Moves.{worldAct, worldStep}
-use Rattle.bus.specs.Range.{nodeInRange, worldInRange}
+use Rattle.bus_nodes.specs.Nodes.{nodeInRange, nodesUsed, nodeAt}
+use Rattle.bus.specs.Range.{worldInRange}
 use Rattle.bus.specs.declared.Passed.{Passed}
-use Rattle.bus.specs.World.{nodesUsed, nodeAt, stays}
+use Rattle.bus.specs.World.{stays}
 use Rattle.bus_history.specs.Run.{run}
 use Rattle.bus_claims.proofs.Awake.{AllAwake, run-awake}
 use Rattle.bus_claims.proofs.ClaimsHold.{WorldByPast, run-by-past}

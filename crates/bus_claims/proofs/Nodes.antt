@@ -22,14 +22,16 @@ use Rattle.machine_node.proofs.Commands.{CommandMeans, tick-means}
 use Rattle.machine_node.proofs.Settling.{InRun, run-power-on, run-off-ends, run-tick, run-pulse, run-wake-ask, run-permission, run-sleep-message, run-request, run-send-ask}
 use Rattle.machine_master.specs.declared.Master.{Master}
 use Rattle.bus.specs.declared.Bus.{Bus}
-use Rattle.bus.specs.declared.Callers.{Callers}
-use Rattle.bus.specs.declared.Message.{Message}
-use Rattle.bus.specs.Pulses.{anyCalled, receiveIf, reachAll, spread}
-use Rattle.bus.specs.Ticks.{tickedNodes, tickCallers}
+use Rattle.bus_nodes.specs.declared.Callers.{Callers}
+use Rattle.bus_nodes.specs.declared.Message.{Message}
+use Rattle.bus_nodes.specs.Pulses.{anyCalled, receiveIf, reachAll}
+use Rattle.bus.specs.Pulses.{spread}
+use Rattle.bus_nodes.specs.Ticks.{tickedNodes, tickCallers}
 use Rattle.bus.specs.declared.Passed.{Passed}
 use Rattle.bus.specs.Passed.{ticked, asked, nodePermits, resultOf, slept}
-use Rattle.bus.specs.World.{powerOn, nodesUsed, noNode, nodeAt}
-use Rattle.bus.proofs.WhoCalls.{callers-some}
+use Rattle.bus_nodes.specs.Nodes.{nodesUsed, noNode, nodeAt}
+use Rattle.bus.specs.World.{powerOn}
+use Rattle.bus_nodes.proofs.WhoCalls.{callers-some}
 use Rattle.bus_history.specs.Terms.{nodePermitted, isResult}
 use Rattle.bus_claims.proofs.EachNode as EachNode
 use Rattle.bus_claims.proofs.EachNode.{Each, over, one}

@@ -15,7 +15,7 @@ use Rattle.machine_master.specs.Answers.{isWhole}
 use Rattle.bus.specs.declared.Move.{Move}
 use Rattle.bus.specs.declared.Passed.{Passed}
 use Rattle.bus.specs.Passed.{answered, sending}
-use Rattle.bus.specs.World.{nodeAt}
+use Rattle.bus_nodes.specs.Nodes.{nodeAt}
 use Rattle.bus_history.specs.Run.{run}
 use Rattle.bus_history.specs.Terms.{every, none, masterPermitted, isAnswerOf, isDamaged, isRefusing, trulyGiven, isWakeUp, isSending, isStop, ticksIn, leavesOn, leavesOff, isAsk, reaches}
 

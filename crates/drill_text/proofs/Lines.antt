@@ -13,7 +13,7 @@ use Rattle.machine_state.specs.declared.State.{State}
 use Rattle.machine_master.specs.declared.Master.{Master}
 use Rattle.machine_node.specs.declared.Node.{Node}
 use Rattle.bus.specs.declared.World.{World}
-use Rattle.bus.specs.World.{nodeAt, nodesUsed}
+use Rattle.bus_nodes.specs.Nodes.{nodeAt, nodesUsed}
 use Rattle.drill_text.specs.Lines.{stateLetter, phaseDigit, clockDigit, statusText, nodeText, nodesText, refusalText, moveLine, badLine}
 
 pub nodes-none : (nodes : List Node) (at : ℕ) (l : List ℕ) → at ≤ largest → Appended at (nodesText nodes 0) l l at

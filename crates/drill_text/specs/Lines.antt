@@ -8,7 +8,7 @@ use Rattle.machine_master.specs.declared.Master.{Master}
 use Rattle.machine_master.specs.declared.Phase.{Phase}
 use Rattle.machine_node.specs.declared.Node.{Node}
 use Rattle.bus.specs.declared.World.{World}
-use Rattle.bus.specs.World.{nodeAt, nodesUsed}
+use Rattle.bus_nodes.specs.Nodes.{nodeAt, nodesUsed}
 use Rattle.base_text.specs.Text.{ascii, decimal}
 
 -- "state (N, S, Z)": Normal, Standby and Sleep

@@ -1,7 +1,7 @@
 // The lines that the drill prints.
 ghost use mathlib.Core.Path.{_≡_};
 ghost use Rattle.base_text.specs.Text.{Appended};
-ghost use Rattle.bus.specs.World.{nodesUsed};
+ghost use Rattle.bus_nodes.specs.Nodes.{nodesUsed};
 ghost use Rattle.drill_text.specs.Lines.{stateLetter, phaseDigit, clockDigit, nodeText, nodesText, refusalText, moveLine, badLine};
 use base_text::append;
 use base_text::append_decimal;

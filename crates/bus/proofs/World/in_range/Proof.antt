@@ -6,9 +6,6 @@ use Rattle.bus.proofs.World.in_range.Tie as tie
 in-range-requires : tie.Need-in-range-requires
 in-range-requires c κs = search needs
 
-nodes-used-requires : tie.Need-nodes-used-requires
-nodes-used-requires c κs = search needs
-
 nodes-in-range-requires : tie.Need-nodes-in-range-requires
 nodes-in-range-requires c κs = search needs
 
@@ -17,10 +14,9 @@ unfolding worldInRange
 returns c =
     rw (
       c .nodes-in-range .ensures,
-      c .before .nodes-used .ensures,
-      c .before .before .in-range .ensures,
+      c .before .in-range .ensures,
     )
 
 pub in-range-spec : {M : Type 1} → statement M
 in-range-spec =
-    tie.close (tie.spec in-range-requires nodes-used-requires nodes-in-range-requires returns)
+    tie.close (tie.spec in-range-requires nodes-in-range-requires returns)

@@ -1,4 +1,5 @@
 -- By the way that the request goes. Assumes nothing.
+use Rattle.bus_nodes.proofs.Nodes.{used-all}
 use mathlib.Core.Path.{ap, _∙_}
 use mathlib.Core.Logic.{⊎-elim}
 use mathlib.Core.List.{List}
@@ -55,7 +56,7 @@ returns c =
     let a = c .before .before .before .before .before .before .before .before .args in
     let j = c .before .before .before .if1 in
     let none = c .before .before .before .before .unanswered .ensures in
-    ap (λ (heard : List Node). record { world = record { master = j .told .master; nodes = heard }; refusal = j .told .refusal; passed = j .told .passed }) (c .reach-all .ensures)
+    ap (λ (heard : List Node). record { world = record { master = j .told .master; nodes = heard }; refusal = j .told .refusal; passed = j .told .passed }) (rw (used-all (a .count) (c .before .before .before .before .before .before .before .before .pre)) at (c .reach-all .ensures))
     ∙ ⊎-elim (λ x. answers (a .count) (a .row) (a .bus) (a .self) (x .0 .taken) (x .1 .taken) (x .3 .ensures) (x .8 ∙ x .5 .ensures) (x .6) (x .7))
     (⊎-elim (λ x. unreached (a .count) (a .row) (a .bus) (a .self) (x .4 ∙ none) (x .2) (x .3) (x .0 .taken) (x .1 .left))
     (λ x. masters (a .count) (a .row) (a .bus) (a .self) (x .3 ∙ none) (x .1) (x .2) (x .0 .left))) (j .came)

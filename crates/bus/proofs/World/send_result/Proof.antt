@@ -1,3 +1,4 @@
+use Rattle.bus_nodes.proofs.Nodes.{used-all}
 use borrow.Author.Needs.{needs}
 use Rattle.bus.proofs.World.send_result.Statement.{statement}
 use Rattle.bus.proofs.World.send_result.Tie as tie
@@ -27,6 +28,7 @@ returns-2 c =
     rw (
       c .slept .ensures,
       c .before .reach-all .ensures,
+      used-all (c .before .before .before .before .before .before .before .before .before .args .count) (c .before .before .before .before .before .before .before .before .before .pre),
       ← c .before .before .before .before .before .before .send-result .ensures,
       c .before .before .before .before .if1 .left,
     )

@@ -1,3 +1,4 @@
+use Rattle.bus_nodes.proofs.Nodes.{used-all}
 use borrow.Author.Needs.{needs}
 use Rattle.bus.proofs.World.spread.Statement.{statement}
 use Rattle.bus.proofs.World.spread.Tie as tie
@@ -16,6 +17,7 @@ returns c =
     rw (
       c .before .wake-up .ensures,
       c .before .before .before .before .reach-all .ensures,
+      used-all (c .before .before .before .before .before .before .before .before .before .args .count) (c .before .before .before .before .before .before .before .before .before .pre),
       ← c .before .before .before .before .before .before .before .before .any-called .ensures,
       c .before .before .before .before .before .before .before .if1 .taken,
       c .before .before .before .if2 .taken,
@@ -25,6 +27,7 @@ returns-2 : tie.Need-returns-2
 returns-2 c =
     rw (
       c .before .before .reach-all .ensures,
+      used-all (c .before .before .before .before .before .before .before .args .count) (c .before .before .before .before .before .before .before .pre),
       ← c .before .before .before .before .before .before .any-called .ensures,
       c .before .before .before .before .before .if1 .taken,
       c .before .if2 .left,

@@ -1,4 +1,5 @@
 -- By the pulses that the nodes sent. Assumes nothing.
+use Rattle.bus_nodes.proofs.Nodes.{used-all}
 use borrow.Author.Tests.{not-true}
 use Rattle.bus.proofs.Ticking.{tick-gives, quiet-tick}
 use borrow.Author.Needs.{needs}
@@ -24,13 +25,13 @@ ticked-requires : tie.Need-ticked-requires
 ticked-requires c κs = search needs
 
 returns : tie.Need-returns
-returns c = let a = c .before .before .before .before .before .before .before .before .before .before .before .before .args in quiet-tick (a .sleeps) (a .times) (a .count) (a .bus) (a .self) (c .before .before .before .before .before .before .before .before .before .tick .ensures) (c .before .before .before .before .before .before .before .is-normal .ensures) (c .before .before .before .before .before .before .tick-nodes .ensures) (c .before .before .before .is-off .ensures) (c .before .before .before .before .any-called .ensures) (c .before .ticked .ensures) (not-true _ (c .if1 .taken))
+returns c = let a = c .before .before .before .before .before .before .before .before .before .before .before .before .args in quiet-tick (a .sleeps) (a .times) (a .count) (a .bus) (a .self) (c .before .before .before .before .before .before .before .before .before .tick .ensures) (c .before .before .before .before .before .before .before .is-normal .ensures) (rw (used-all (a .count) (c .before .before .before .before .before .before .before .before .before .before .before .before .pre)) at (c .before .before .before .before .before .before .tick-nodes .ensures)) (c .before .before .before .is-off .ensures) (c .before .before .before .before .any-called .ensures) (c .before .ticked .ensures) (not-true _ (c .if1 .taken))
 
 spread-requires : tie.Need-spread-requires
 spread-requires c κs = search needs
 
 returns-2 : tie.Need-returns-2
-returns-2 c = let a = c .before .before .before .before .before .before .before .before .before .before .before .before .before .args in tick-gives (a .sleeps) (a .times) (a .count) (a .bus) (a .self) (c .before .before .before .before .before .before .before .before .before .before .tick .ensures) (c .before .before .before .before .before .before .before .before .is-normal .ensures) (c .before .before .before .before .before .before .before .tick-nodes .ensures) (c .before .before .before .before .is-off .ensures) (c .before .before .before .before .before .any-called .ensures) (c .before .before .ticked .ensures) (c .spread .ensures)
+returns-2 c = let a = c .before .before .before .before .before .before .before .before .before .before .before .before .before .args in tick-gives (a .sleeps) (a .times) (a .count) (a .bus) (a .self) (c .before .before .before .before .before .before .before .before .before .before .tick .ensures) (c .before .before .before .before .before .before .before .before .is-normal .ensures) (rw (used-all (a .count) (c .before .before .before .before .before .before .before .before .before .before .before .before .before .pre)) at (c .before .before .before .before .before .before .before .tick-nodes .ensures)) (c .before .before .before .before .is-off .ensures) (c .before .before .before .before .before .any-called .ensures) (c .before .before .ticked .ensures) (c .spread .ensures)
 
 pub tick-spec : {M : Type 1} → statement M
 tick-spec =

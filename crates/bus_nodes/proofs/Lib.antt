@@ -1,0 +1,4 @@
+pub mod EachOne
+pub mod Nodes
+pub mod Resting
+pub mod WhoCalls

@@ -1,0 +1,5 @@
+pub mod Each
+pub mod Nodes
+pub mod Pulses
+pub mod Resting
+pub mod Ticks
