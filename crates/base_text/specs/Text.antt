@@ -5,7 +5,8 @@ use Prim.Native.String.{String}
 use Prim.Native.String as quoted
 use mathlib.Core.Path.{_≡_}
 use mathlib.Core.List.{List, [], _∷_, _++_}
-use lib.Dec.{ltb}
+use mathlib.Core.Bool.{Bool, true, false, _&&_}
+use lib.Dec.{ltb, eqb}
 use lib.ListN.{length, take}
 use lib.Seq.{sets}
 use Rattle.base_lists.specs.Bounded.{ifElse}
@@ -14,6 +15,13 @@ use Rattle.base_lists.specs.Bounded.{ifElse}
 abbrev pub ascii : String → List ℕ
 ascii quoted.[] = []
 ascii (quoted._∷_ c s) = code c ∷ ascii s
+
+-- two texts are the same
+unfoldable pub same : List ℕ → List ℕ → Bool
+same [] [] = true
+same [] (y ∷ b) = false
+same (x ∷ a) [] = false
+same (x ∷ a) (y ∷ b) = eqb x y && same a b
 
 -- a number's decimal digits, of which there is room for so many
 unfoldable pub digitsIn : ℕ → ℕ → List ℕ

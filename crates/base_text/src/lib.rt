@@ -1,9 +1,9 @@
-// Text appended to a lent buffer. What lies past the buffer's end is dropped, and the index that comes back tells how
+// Text appended to a lent buffer, and texts compared. What lies past the buffer's end is dropped, and the index that comes back tells how
 // much room the text takes, so that no caller has to reckon lengths.
 ghost use mathlib.Core.Path.{_≡_};
 ghost use Prim.Native.Nat.{_+_, _%_, min};
 ghost use lib.ListN.{length};
-ghost use Rattle.base_text.specs.Text.{Appended, Counts, largest, digitsIn, decimal, hexDigit, hexByte};
+ghost use Rattle.base_text.specs.Text.{same, Appended, Counts, largest, digitsIn, decimal, hexDigit, hexByte};
 
 // The index that lies some places behind another, the largest index at most.
 fn index_after(at: usize, places: usize) -> usize
@@ -61,4 +61,20 @@ pub fn below(buffer: &[u8], at: usize) -> usize
     ensures { λ r. ⌜ Counts r (now (buffer .entry)) ⌝ }
 {
     if at < buffer.len() { at } else { buffer.len() }
+}
+
+pub fn same(a: &[u8], b: &[u8]) -> bool
+    ensures { λ r. ⌜ r ≡ same (now (a .entry)) (now (b .entry)) ⌝ }
+{
+    if a.len() != b.len() {
+        return false;
+    }
+    let mut i: usize = 0;
+    while i < a.len() {
+        if a[i] != b[i] {
+            return false;
+        }
+        i += 1;
+    }
+    true
 }

@@ -5,9 +5,9 @@ use mathlib.Core.List.{List, [], _∷_, map}
 use mathlib.Core.Bool.{true, false}
 use Rattle.bus.specs.declared.Act.{Act}
 use Rattle.bus.specs.declared.Fate.{Fate}
-use Rattle.base_text.specs.Text.{ascii}
+use Rattle.base_text.specs.Text.{ascii, same}
 use Rattle.drill_line.specs.declared.Line.{Line}
-use Rattle.drill_line.specs.Words.{same, cut}
+use Rattle.drill_line.specs.Words.{cut}
 use Rattle.drill_line.specs.Parse.{whole, damaged, parseLine}
 
 abbrev parsed : List String → List Line

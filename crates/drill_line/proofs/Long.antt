@@ -13,10 +13,10 @@ use Rattle.base_lists.specs.Bounded.{ifElse}
 use Rattle.drill_line.specs.declared.Line.{Line}
 use Rattle.drill_line.specs.declared.Who.{Who}
 use Rattle.drill_line.specs.declared.FateWord.{FateWord}
-use Rattle.base_text.specs.Text.{ascii}
-use Rattle.drill_line.specs.Words.{same, cut, words, longer, noNumber, numberOf}
+use Rattle.base_text.specs.Text.{ascii, same}
+use Rattle.base_text.proofs.Equal.{same-true, same-no}
+use Rattle.drill_line.specs.Words.{cut, words, longer, noNumber, numberOf}
 use Rattle.drill_line.specs.Parse.{whoOf, fateOf, oneWord, twoWords, threeWords, fourWords, permitWho, permitOf, requestOf, sendWho, sendOf, lineOf, parseLine}
-use Rattle.drill_line.proofs.Words.{same-true, same-no}
 
 other : (a b : List ℕ) → (length a ≡ length b → ⊥) → same a b ≡ false
 other a b n = same-no a b (λ e. n (ap length e))

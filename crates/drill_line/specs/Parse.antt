@@ -9,8 +9,8 @@ use Rattle.set_plan.specs.Limits.{maxNodes, reqids}
 use Rattle.bus.specs.declared.Act.{Act}
 use Rattle.bus.specs.declared.Fate.{Fate}
 use Rattle.bus.specs.declared.Move.{Move}
-use Rattle.base_text.specs.Text.{ascii}
-use Rattle.drill_line.specs.Words.{same, words, numberOf}
+use Rattle.base_text.specs.Text.{ascii, same}
+use Rattle.drill_line.specs.Words.{words, numberOf}
 use Rattle.drill_line.specs.declared.Line.{Line}
 use Rattle.drill_line.specs.declared.FateWord.{FateWord}
 use Rattle.drill_line.specs.declared.Who.{Who}

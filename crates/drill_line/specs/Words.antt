@@ -1,18 +1,10 @@
 -- The words of a line, and the numbers among them.
 use Prim.Native.Nat.{ℕ, suc, _+_, _*_, _-_}
 use mathlib.Core.List.{List, [], _∷_}
-use mathlib.Core.Bool.{Bool, true, false, _&&_}
 use lib.Dec.{ltb, eqb}
 use lib.ListN.{length}
 use Rattle.base_lists.specs.Bounded.{ifElse}
 use Rattle.base_bytes.specs.Bytes.{byte}
-
--- two words are the same
-unfoldable pub same : List ℕ → List ℕ → Bool
-same [] [] = true
-same [] (y ∷ b) = false
-same (x ∷ a) [] = false
-same (x ∷ a) (y ∷ b) = eqb x y && same a b
 
 abbrev pub longer : ℕ → List (List ℕ) → List (List ℕ)
 longer c [] = (c ∷ []) ∷ []

@@ -3,9 +3,10 @@ ghost use mathlib.Core.Path.{_≡_};
 ghost use mathlib.Core.List.{_∷_};
 ghost use Prim.Native.Nat.{_+_, _<_};
 ghost use lib.ListN.{length, take, drop};
-ghost use Rattle.drill_line.specs.Words.{same, words, firstSpace, digitOf, twoDigits, threeDigits, numberOf};
+ghost use Rattle.drill_line.specs.Words.{words, firstSpace, digitOf, twoDigits, threeDigits, numberOf};
 ghost use Rattle.drill_line.specs.Parse.{whoOf, fateOf, oneWord, wakeOf, sentOf, twoWords, permitWho, permitOf, requestOf, threeWords, sendWho, sendOf, fourWords, lineOf, parseLine, onDrillBus};
 use base_bytes::byte_at;
+use base_text::same;
 use bus::Act;
 use bus::Bus;
 use bus::Damage;
@@ -39,22 +40,6 @@ const OWN_LENGTH: u16 = u16::MAX;
 
 // What a word that is no number counts as.
 const NO_NUMBER: u16 = 1000;
-
-fn same(a: &[u8], b: &[u8]) -> bool
-    ensures { λ r. ⌜ r ≡ same (now (a .entry)) (now (b .entry)) ⌝ }
-{
-    if a.len() != b.len() {
-        return false;
-    }
-    let mut i: usize = 0;
-    while i < a.len() {
-        if a[i] != b[i] {
-            return false;
-        }
-        i += 1;
-    }
-    true
-}
 
 fn first_space(text: &[u8]) -> usize
     ensures { λ r. ⌜ r ≡ firstSpace (now (text .entry)) ⌝ }

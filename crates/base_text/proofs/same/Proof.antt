@@ -5,10 +5,10 @@ use native.Mathlib.Omega.{arith}
 use borrow.Author.Count.{below-none, below-more}
 use lib.ListN.{length, getD}
 use lib.Seq.{ext-getD}
-use Rattle.drill_line.proofs.Words.{same-yes, same-no}
+use Rattle.base_text.proofs.Equal.{same-yes, same-no}
 use borrow.Author.Needs.{needs}
-use Rattle.drill_line.proofs.same.Statement.{statement}
-use Rattle.drill_line.proofs.same.Tie as tie
+use Rattle.base_text.proofs.same.Statement.{statement}
+use Rattle.base_text.proofs.same.Tie as tie
 
 abbrev Inv-loop : tie.InvT-loop
 Inv-loop a b i₀ i = (i ≤ length a) × (length a ≡ length b) × ((k : ℕ) → k < i → getD a k 0 ≡ getD b k 0)
