@@ -1,10 +1,23 @@
-// A set's file, for programs: what a file holds is outside any promise, so of reading it only the count is promised.
+// What the programs share: the set's file, named by their argument, what they read and print, and what they say on standard error. What a
+// file holds and whether a write succeeds is outside any promise, so of reading only the count is promised.
 ghost use mathlib.Core.Path.{_≡_};
+ghost use mathlib.Core.Bool.{false};
 ghost use lib.ListN.{replicate};
 ghost use Rattle.io.specs.Counts.{Counts};
 ghost use Rattle.set_reader.specs.Read.{readSet};
+use base_text::append;
+use base_text::append_decimal;
+use base_text::below;
+use libc::STDERR_FILENO;
 use libc::STDOUT_FILENO;
+use program_arguments::Ask;
 use set_reader::ReadAnswer;
+
+// How many bytes were read, and whether none failed to be.
+pub struct FileRead {
+    pub whole: bool,
+    pub count: usize,
+}
 
 // Room for the longest set, and a byte more that tells a longer file.
 pub fn set_room() -> [u8; 1537]
@@ -13,28 +26,140 @@ pub fn set_room() -> [u8; 1537]
     [0; 1537]
 }
 
-// Reads a file into a buffer as far as it has room. A file that is missing or can't be read counts as empty.
-pub fn read_file(name: &[u8], set: &mut [u8]) -> usize
-    ensures { λ r. ⌜ Counts r (now (set .exit)) ⌝ }
+// A line on standard error, right after the call that failed: the program, what it is about, and errno's words.
+fn fail(program: &[u8], what: &[u8]) {
+    let mut line = io::large_buffer();
+    let a = append(&mut line, 0, program);
+    let b = append(&mut line, a, b": ");
+    let end = append(&mut line, b, what);
+    let length = below(&line, end);
+    os::fail(&line[..length]);
+}
+
+// Prints a text if all before it was printed, and answers whether all is. So a write that fails is told once, and is the last.
+pub fn print(program: &[u8], before: bool, text: &[u8]) -> bool
+    ensures { λ r. ⌜ (before ≡ false → r ≡ false) ⌝ }
+{
+    if before {
+        if io::write_all(STDOUT_FILENO, text) {
+            return true;
+        }
+        fail(program, b"output");
+    }
+    false
+}
+
+// Reads moves once, as many bytes as come.
+pub fn read_some(program: &[u8], file: i32, buffer: &mut [u8]) -> usize
+    ensures { λ r. ⌜ Counts r (now (buffer .exit)) ⌝ }
+{
+    let got = libc::read(file, buffer);
+    if got < 0 {
+        fail(program, b"moves");
+    }
+    io::count(got, buffer)
+}
+
+// Whether reading fails. What failed once fails again, and after a file's end a read answers 0.
+fn fails(file: i32) -> bool {
+    let mut room = [0u8; 1];
+    let byte: &mut [u8] = &mut room;
+    libc::read(file, byte) < 0
+}
+
+// Reads until a buffer is full or the input ends.
+pub fn read_full(program: &[u8], what: &[u8], file: i32, buffer: &mut [u8]) -> FileRead
+    ensures { λ r. ⌜ Counts (r .count) (now (buffer .exit)) ⌝ }
+{
+    let count = io::read_full(file, buffer);
+    if count == buffer.len() {
+        return FileRead { whole: true, count };
+    }
+    if fails(file) {
+        fail(program, what);
+        return FileRead {
+            whole: false,
+            count,
+        };
+    }
+    FileRead { whole: true, count }
+}
+
+// Reads a file into a buffer as far as it has room.
+pub fn read_file(program: &[u8], name: &[u8], buffer: &mut [u8]) -> FileRead
+    ensures { λ r. ⌜ Counts (r .count) (now (buffer .exit)) ⌝ }
 {
     let file = os::open_read(name);
     if file < 0 {
-        return 0;
+        fail(program, name);
+        return FileRead {
+            whole: false,
+            count: 0,
+        };
     }
-    let count = io::read_full(file, set);
+    let read = read_full(program, name, file, buffer);
     libc::close(file);
-    count
+    read
+}
+
+fn print_refusal(program: &[u8], refusal: u8) {
+    let mut line = io::buffer();
+    let a = append(&mut line, 0, b"set ");
+    let b = append_decimal(&mut line, a, refusal as u64);
+    let end = append(&mut line, b, b"\n");
+    let length = below(&line, end);
+    print(program, true, &line[..length]);
+}
+
+// The set in a file. One that can't be read is refused as one of a wrong length is.
+fn read_named(program: &[u8], name: &[u8], set: &mut [u8]) -> FileRead
+    ensures { λ r. ⌜ Counts (r .count) (now (set .exit)) ⌝ }
+{
+    let read = read_file(program, name, set);
+    if !read.whole {
+        print_refusal(program, 1);
+    }
+    read
+}
+
+fn print_help(program: &[u8], about: &[u8]) {
+    let mut text = io::buffer();
+    let length = program_arguments::help(program, about, &mut text);
+    print(program, true, &text[..length]);
+}
+
+fn say_usage(program: &[u8]) {
+    let mut line = io::buffer();
+    let length = program_arguments::usage(program, &mut line);
+    io::write_all(STDERR_FILENO, &line[..length]);
+}
+
+// Reads the set that the arguments name. Where that is not whole, all is said, and the program has nothing to do.
+pub fn read_set(program: &[u8], about: &[u8], set: &mut [u8]) -> FileRead
+    ensures { λ r. ⌜ Counts (r .count) (now (set .exit)) ⌝ }
+{
+    let mut room = io::buffer();
+    let length = os::arg(1, &mut room);
+    let ask = program_arguments::asked(os::arg_count(), &room[..length]);
+    match ask {
+        Ask::Default => return read_named(program, b"plan.set", set),
+        Ask::Named => return read_named(program, &room[..length], set),
+        Ask::Help => print_help(program, about),
+        Ask::Usage => say_usage(program),
+    }
+    FileRead {
+        whole: false,
+        count: 0,
+    }
 }
 
 // The plan of a set's bytes. A refused set is named on standard output.
-pub fn read_plan(set: &[u8]) -> ReadAnswer
+pub fn read_plan(program: &[u8], set: &[u8]) -> ReadAnswer
     ensures { λ r. ⌜ r ≡ readSet (now (set .entry)) ⌝ }
 {
     let answer = set_reader::read(set);
     if !(answer.refusal == 0) {
-        io::write_all(STDOUT_FILENO, b"set ");
-        io::print_decimal(STDOUT_FILENO, answer.refusal as u64);
-        io::write_all(STDOUT_FILENO, b"\n");
+        print_refusal(program, answer.refusal);
     }
     answer
 }

@@ -1,9 +1,8 @@
-// Replays recorded moves, records of 16 bytes from standard input, under the set in the file plan.set: prints the drill's line of each.
+// Replays recorded moves, records of 16 bytes from standard input, under a set: prints the drill's line of each.
 ghost use mathlib.Core.Path.{_≡_};
 ghost use lib.ListN.{length};
 use drill_replay::Replay;
 use libc::STDIN_FILENO;
-use libc::STDOUT_FILENO;
 
 struct Turn {
     replay: Replay,
@@ -19,11 +18,12 @@ fn input_room() -> [u8; 12800]
 
 // Reads a piece, which only the end of the input cuts short, and prints what it gives.
 fn read_on(replay: Replay, input: &mut [u8], out: &mut [u8]) -> Turn {
-    let count = io::read_full(STDIN_FILENO, input);
+    let piece = program_files::read_full(b"replay", b"moves", STDIN_FILENO, input);
+    let count = piece.count;
     let fed = replay.feed(&input[..count], out);
     let length = fed.length;
     let next = fed.replay;
-    let written = io::write_all(STDOUT_FILENO, &out[..length]);
+    let written = program_files::print(b"replay", true, &out[..length]);
     Turn {
         replay: next,
         more: written & (count == input.len()),
@@ -48,12 +48,23 @@ fn run(start: Replay) {
     }
 }
 
-fn main() {
-    let mut set = program_files::set_room();
-    let count = program_files::read_file(b"plan.set", &mut set);
-    let answer = program_files::read_plan(&set[..count]);
+fn replay(set: &[u8]) {
+    let answer = program_files::read_plan(b"replay", set);
     let plan = answer.plan;
     if answer.refusal == 0 {
         run(Replay::start(plan));
+    }
+}
+
+fn main() {
+    let mut set = program_files::set_room();
+    let file = program_files::read_set(
+        b"replay",
+        b"Reads recorded moves from standard input, 16 bytes each, and prints the drill's line of each.\n",
+        &mut set,
+    );
+    if file.whole {
+        let count = file.count;
+        replay(&set[..count]);
     }
 }

@@ -16,13 +16,14 @@ fn run(set_argument: usize, argument: usize) {
     print(&name[..length]);
     print(b"\n");
     let mut set = program_files::set_room();
-    let count = program_files::read_file(&set_name[..set_length], &mut set);
+    let read = program_files::read_file(b"test_drills", &set_name[..set_length], &mut set);
+    let count = read.count;
     let file = os::open_read(&name[..length]);
     if file < 0 {
         print(b"no script\n");
         return;
     }
-    program_drill::drill(&set[..count], file);
+    program_drill::drill(b"test_drills", &set[..count], file);
     libc::close(file);
 }
 

@@ -108,7 +108,8 @@ fn run_file(argument: usize, revision: u16, profile: u8, variable: bool) {
     let name_length = os::arg(argument, &mut name);
     print(&name[..name_length]);
     let mut moves = io::large_buffer();
-    let count = program_files::read_file(&name[..name_length], &mut moves);
+    let read = program_files::read_file(b"test_moves", &name[..name_length], &mut moves);
+    let count = read.count;
     print_ran(bus_moves::run(plan_of(revision, profile, variable), &moves[..count]));
 }
 

@@ -58,7 +58,8 @@ fn show_file(argument: usize) {
     let name_length = os::arg(argument, &mut name);
     print(&name[..name_length]);
     let mut set = program_files::set_room();
-    let count = program_files::read_file(&name[..name_length], &mut set);
+    let read = program_files::read_file(b"test_sets", &name[..name_length], &mut set);
+    let count = read.count;
     print_refusal(&set[..count]);
     let mut out = io::large_buffer();
     let length = set_text::show(&set[..count], &mut out);

@@ -89,7 +89,8 @@ fn run(plan: Plan) {
 
 fn main() {
     let mut set = program_files::set_room();
-    let count = program_files::read_file(b"plan.set", &mut set);
+    let read = program_files::read_file(b"test_states", b"plan.set", &mut set);
+    let count = read.count;
     let answer = set_reader::read(&set[..count]);
     let plan = answer.plan;
     if answer.refusal == 0 {

@@ -3,6 +3,14 @@ use libc::STDIN_FILENO;
 
 fn main() {
     let mut set = program_files::set_room();
-    let count = program_files::read_file(b"plan.set", &mut set);
-    program_drill::why(&set[..count], STDIN_FILENO);
+    let file = program_files::read_set(
+        b"why",
+        b"Reads moves from standard input and prints the drill's lines, then one more: why the master is\n\
+awake after the last move. drill --help has the moves.\n",
+        &mut set,
+    );
+    if file.whole {
+        let count = file.count;
+        program_drill::why(b"why", &set[..count], STDIN_FILENO);
+    }
 }

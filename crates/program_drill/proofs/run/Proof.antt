@@ -4,10 +4,10 @@ use Rattle.program_drill.proofs.run.Statement.{statement}
 use Rattle.program_drill.proofs.run.Tie as tie
 
 abbrev Inv-loop : tie.InvT-loop
-Inv-loop file input₀ out₀ drill₀ turns₀ input out drill turns = Unit {0}
+Inv-loop program file input₀ out₀ drill₀ turns₀ input out drill turns = Unit {0}
 
 abbrev μ-loop : tie.MeasureT-loop
-μ-loop file input₀ out₀ drill₀ turns₀ input out drill turns = turns
+μ-loop program file input₀ out₀ drill₀ turns₀ input out drill turns = turns
 
 input-room-requires : tie.Need-input-room-requires Inv-loop μ-loop
 input-room-requires c κs = search needs
@@ -26,9 +26,6 @@ loop-holds c = search needs
 
 read-on-requires : tie.Need-read-on-requires Inv-loop μ-loop
 read-on-requires c κs = search needs
-
-end-requires : tie.Need-end-requires Inv-loop μ-loop
-end-requires c κs = search needs
 
 returns : tie.Need-returns Inv-loop μ-loop
 returns c = search needs
@@ -57,7 +54,6 @@ run-spec =
     slice-aggregate-out
     loop-holds
     read-on-requires
-    end-requires
     returns
     sub-turns
     loop-less
