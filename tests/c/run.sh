@@ -22,6 +22,7 @@ done
 
 # Proves nothing again after rt ci, but for the crates of C calls, which are proved with their archive; their modules are kept for the controllers.
 try programs rt check drill why replay test_states show
+try programs_arguments sh tests/programs/run.sh
 try archive sh firmware/module.sh
 try symbols sh tests/c/symbols.sh $archive include/cxpi.h
 
