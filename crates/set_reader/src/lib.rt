@@ -9,7 +9,14 @@ use base_bytes::put_zeros;
 use set_plan::Plan;
 
 mod layout;
+mod offsets;
 mod rules;
+
+pub use offsets::CHECK_AT;
+pub use offsets::ENTRIES_AT;
+pub use offsets::LONG_LENGTH;
+pub use offsets::ROWS_AT;
+pub use offsets::SHORT_LENGTH;
 
 pub struct ReadAnswer {
     pub refusal: u8,

@@ -9,6 +9,17 @@ ghost use Rattle.set_plan.specs.Rules.{inRange, planRefusal};
 ghost use Rattle.base_bytes.specs.Limits.{blockLength};
 ghost use Rattle.set_reader.specs.Layout.{planOf};
 ghost use Rattle.set_reader.specs.Rules.{lengthRight, checkRight, checksRight, blockType, typeRight, typesRight, revisionSame, revisionsSame, countsRight, fillerAt, messageFillerAt, fillerRight, FillerStart, shapeRules, contentRules};
+use crate::offsets::CHECK_AT;
+use crate::offsets::ENTRIES_AT;
+use crate::offsets::FIRST_ROWCOUNT_AT;
+use crate::offsets::LONG_LENGTH;
+use crate::offsets::NODECOUNT_AT;
+use crate::offsets::PROFILE_AT;
+use crate::offsets::REVISION_AT;
+use crate::offsets::ROWCOUNT_AT;
+use crate::offsets::ROWS_AT;
+use crate::offsets::SECOND_ROWCOUNT_AT;
+use crate::offsets::SHORT_LENGTH;
 use base_bytes::BLOCK_LENGTH;
 use base_bytes::are_zero;
 use base_bytes::block_check;
@@ -19,14 +30,14 @@ use set_plan::Plan;
 fn length_right(s: &[u8]) -> bool
     ensures { λ r. ⌜ r ≡ lengthRight (now (s .entry)) ⌝ }
 {
-    (s.len() == 1024) | (s.len() == 1536)
+    (s.len() == SHORT_LENGTH) | (s.len() == LONG_LENGTH)
 }
 
 fn check_right(s: &[u8], b: usize) -> bool
     requires { ⌜ b < 3 ⌝ }
     ensures { λ r. ⌜ r ≡ checkRight (now (s .entry)) b ⌝ }
 {
-    block_check(s, BLOCK_LENGTH * b) == number_at(s, BLOCK_LENGTH * b + 510)
+    block_check(s, BLOCK_LENGTH * b) == number_at(s, BLOCK_LENGTH * b + CHECK_AT)
 }
 
 // The first wrong check ends it: checks are most of a read's time.
@@ -39,7 +50,7 @@ fn checks_right(s: &[u8]) -> bool
     if !check_right(s, 1) {
         return false;
     }
-    if s.len() == 1024 {
+    if s.len() == SHORT_LENGTH {
         return true;
     }
     check_right(s, 2)
@@ -61,7 +72,7 @@ fn type_right(s: &[u8], b: usize) -> bool
 fn types_right(s: &[u8]) -> bool
     ensures { λ r. ⌜ r ≡ typesRight (now (s .entry)) ⌝ }
 {
-    type_right(s, 0) & type_right(s, 1) & ((s.len() == 1024) | type_right(s, 2))
+    type_right(s, 0) & type_right(s, 1) & ((s.len() == SHORT_LENGTH) | type_right(s, 2))
 }
 
 // Rules 1 to 3, which need no record.
@@ -74,7 +85,7 @@ pub(crate) fn shape_refusal(s: &[u8]) -> u8
     if !checks_right(s) {
         return 2;
     }
-    if !(types_right(s) & set_plan::profile_right(byte_at(s, 5))) {
+    if !(types_right(s) & set_plan::profile_right(byte_at(s, PROFILE_AT))) {
         return 3;
     }
     0
@@ -84,13 +95,13 @@ fn revision_same(s: &[u8], b: usize) -> bool
     requires { ⌜ b < 3 ⌝ }
     ensures { λ r. ⌜ r ≡ revisionSame (now (s .entry)) b ⌝ }
 {
-    number_at(s, BLOCK_LENGTH * b + 2) == number_at(s, 2)
+    number_at(s, BLOCK_LENGTH * b + REVISION_AT) == number_at(s, REVISION_AT)
 }
 
 fn revisions_same(s: &[u8]) -> bool
     ensures { λ r. ⌜ r ≡ revisionsSame (now (s .entry)) ⌝ }
 {
-    revision_same(s, 0) & revision_same(s, 1) & ((s.len() == 1024) | revision_same(s, 2))
+    revision_same(s, 0) & revision_same(s, 1) & ((s.len() == SHORT_LENGTH) | revision_same(s, 2))
 }
 
 fn in_range(least: u16, most: u16, x: u16) -> bool
@@ -102,42 +113,42 @@ fn in_range(least: u16, most: u16, x: u16) -> bool
 fn counts_right(s: &[u8]) -> bool
     ensures { λ r. ⌜ r ≡ countsRight (now (s .entry)) ⌝ }
 {
-    let first = byte_at(s, 516) as u16;
-    let second = byte_at(s, 1028) as u16;
+    let first = byte_at(s, FIRST_ROWCOUNT_AT) as u16;
+    let second = byte_at(s, SECOND_ROWCOUNT_AT) as u16;
     in_range(1, Plan::BLOCK_ROWS, first)
-        & ((s.len() == 1024) | (first == Plan::BLOCK_ROWS) & in_range(1, Plan::BLOCK_ROWS, second))
+        & ((s.len() == SHORT_LENGTH)
+            | (first == Plan::BLOCK_ROWS) & in_range(1, Plan::BLOCK_ROWS, second))
 }
 
 // Where the filler behind some entries of 4 bytes starts.
-fn filler_start(first: u32, count: u8) -> u32
+fn filler_start(first: usize, count: u8) -> usize
     requires { ⌜ first ≤ 510 ⌝ }
     ensures { λ r. ⌜ FillerStart first count r ⌝ }
 {
-    let end = first + 4 * (count as u32);
-    if end < 510 { end } else { 510 }
+    set_record::least(first + 4 * (count as usize), CHECK_AT)
 }
 
 fn plan_filler(s: &[u8]) -> bool
     ensures { λ r. ⌜ r ≡ allTo (fillerAt (now (s .entry))) blockLength ⌝ }
 {
-    let start = filler_start(32, byte_at(s, 4));
-    are_zero(s, 20, 12) & are_zero(s, start as usize, 510 - start)
+    let start = filler_start(ENTRIES_AT, byte_at(s, NODECOUNT_AT));
+    are_zero(s, 20, 12) & are_zero(s, start, (CHECK_AT - start) as u32)
 }
 
 fn message_filler(s: &[u8], b: usize) -> bool
     requires { ⌜ (1 ≤ b) × (b < 3) ⌝ }
     ensures { λ r. ⌜ r ≡ allTo (messageFillerAt (now (s .entry)) b) blockLength ⌝ }
 {
-    let start = filler_start(8, byte_at(s, BLOCK_LENGTH * b + 4));
+    let start = filler_start(ROWS_AT, byte_at(s, BLOCK_LENGTH * b + ROWCOUNT_AT));
     are_zero(s, BLOCK_LENGTH * b + 5, 3)
-        & are_zero(s, BLOCK_LENGTH * b + start as usize, 510 - start)
+        & are_zero(s, BLOCK_LENGTH * b + start, (CHECK_AT - start) as u32)
 }
 
 fn filler_right(s: &[u8]) -> bool
     requires { ⌜ lengthRight (now s) ≡ true ⌝ }
     ensures { λ r. ⌜ r ≡ fillerRight (now (s .entry)) ⌝ }
 {
-    if s.len() == 1024 {
+    if s.len() == SHORT_LENGTH {
         plan_filler(s) & message_filler(s, 1)
     } else {
         plan_filler(s) & message_filler(s, 1) & message_filler(s, 2)

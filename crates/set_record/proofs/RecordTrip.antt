@@ -1,6 +1,6 @@
 -- A packed plan record gives its plan back, and the plan its packed record.
 use Prim.Native.Nat.{ℕ, _+_, _*_, _-_, _/_, _%_, _<_}
-use mathlib.Core.Path.{_≡_, refl, ap, sym, _∙_}
+use mathlib.Core.Path.{_≡_, ap, sym, _∙_}
 use mathlib.Core.List.{List}
 use lib.ListN.{length, getD}
 use native.Mathlib.Omega.{arith}
@@ -10,13 +10,11 @@ use Rattle.base_lists.specs.Bounded.{tab}
 use Rattle.base_lists.proofs.Tables.{getD-tab, length-tab, tab-of}
 use Rattle.base_bytes.specs.Bytes.{byte, number, highByte, lowByte}
 use Rattle.base_bytes.proofs.Halves.{from-halves, high-at, low-at}
-use Rattle.set_plan.specs.declared.NodeEntry.{NodeEntry}
-use Rattle.set_plan.specs.declared.Row.{Row}
 use Rattle.set_plan.specs.declared.Plan.{Plan}
 use Rattle.set_plan.specs.Record.{zeroEntry, zeroRow, entryAt, rowAt}
-use Rattle.set_record.specs.Entries.{timesFrom, entryFrom, entryBytes, entryByteAt, rowFrom, rowBytes, rowByteFrom}
+use Rattle.set_record.specs.Entries.{timesFrom, entryFrom, entryBytes, entryByteAt, rowFrom, rowBytes, rowByteAt}
 use Rattle.set_record.specs.Record.{recordEntry, recordRow, recordOf, recordHead, recordByte, recordBytes}
-use Rattle.set_record.proofs.FourBytes.{entry-byte, row-byte, entry-four, row-four}
+use Rattle.set_record.proofs.FourBytes.{entry-byte, row-byte, entry-from, row-from, table-byte, four-there}
 
 module _ (p : Plan) (nodes-long : length (p .nodes) ≡ 16) (rows-long : length (p .rows) ≡ 127) where
   byte-is : (o : ℕ) → o < 592 → byte (recordBytes p) o ≡ recordByte p o
@@ -41,35 +39,18 @@ module _ (p : Plan) (nodes-long : length (p .nodes) ≡ 16) (rows-long : length 
       }
 
   entry-back : (k : ℕ) → k < 16 → entryFrom (recordBytes p) (19 + 4 * k) ≡ entryAt (p .nodes) k
-  unfolding entryFrom recordByte
-  entry-back k h =
-      λ i. record {
-        address = at 0 (19 + 4 * k) (omega arith) (omega arith) i;
-        class = at 1 (19 + 4 * k + 1) (omega arith) refl i;
-        method = at 2 (19 + 4 * k + 2) (omega arith) refl i;
-        reserved = at 3 (19 + 4 * k + 3) (omega arith) refl i;
-      }
-    where
-      at : (m o : ℕ) → m < 4 → o ≡ 19 + 4 * k + m → byte (recordBytes p) o ≡ getD (entryBytes (entryAt (p .nodes) k)) m 0
-      at m o a b =
-          let z : o - 19 ≡ 4 * k + m = omega arith in
-          byte-is o (omega arith) ∙ rw (le-ltb o 19 (omega arith), lt-ltb o 83 (omega arith), z) (sym (entry-four (p .nodes) k m a))
+  unfolding recordByte
+  entry-back k h = entry-from (recordBytes p) (p .nodes) (19 + 4 * k) k (λ m a.
+      let o = 19 + 4 * k + m in
+      let z : o - 19 ≡ 4 * k + m = omega arith in
+      byte-is o (omega arith) ∙ rw (le-ltb o 19 (omega arith), lt-ltb o 83 (omega arith), z))
 
   row-back : (j : ℕ) → j < 127 → rowFrom (recordBytes p) (83 + 4 * j) ≡ rowAt (p .rows) j
-  unfolding rowFrom recordByte
-  row-back j h =
-      λ i. record {
-        reqid = at 0 (83 + 4 * j) (omega arith) (omega arith) i;
-        publisher = at 1 (83 + 4 * j + 1) (omega arith) refl i;
-        length = at 2 (83 + 4 * j + 2) (omega arith) refl i;
-        kind = at 3 (83 + 4 * j + 3) (omega arith) refl i;
-      }
-    where
-      at : (m o : ℕ) → m < 4 → o ≡ 83 + 4 * j + m → byte (recordBytes p) o ≡ getD (rowBytes (rowAt (p .rows) j)) m 0
-      at m o a b =
-          let z : o - 83 ≡ 4 * j + m = omega arith in
-          let y : 0 + j ≡ j = omega arith in
-          byte-is o (omega arith) ∙ rw (le-ltb o 19 (omega arith), le-ltb o 83 (omega arith), lt-ltb o 591 (omega arith), z) (sym (row-four (p .rows) 0 j m a) ∙ ap (λ x. getD (rowBytes (rowAt (p .rows) x)) m 0) y)
+  unfolding recordByte
+  row-back j h = row-from (recordBytes p) (p .rows) (83 + 4 * j) j (λ m a.
+      let o = 83 + 4 * j + m in
+      let z : o - 83 ≡ 4 * j + m = omega arith in
+      byte-is o (omega arith) ∙ rw (le-ltb o 19 (omega arith), le-ltb o 83 (omega arith), lt-ltb o 591 (omega arith), z))
 
   nodes-back : tab 16 (recordEntry (recordBytes p)) ≡ p .nodes
   nodes-back = sym (tab-of zeroEntry 16 (recordEntry (recordBytes p)) (p .nodes) nodes-long (λ k h. sym (entry-back k h)))
@@ -108,26 +89,16 @@ module _ (s : List ℕ) (size : length s ≡ 592) where
   unfolding recordOf
   profile-is = rw (eq-eqb (length s) 592 size)
 
-  entry-is : (k i : ℕ) → k < 16 → i < 4 → getD (entryBytes (entryAt (recordOf s .nodes) k)) i 0 ≡ byte s (19 + 4 * k + i)
-  entry-is k i a b =
-      ap (λ l. getD (entryBytes (entryAt l k)) i 0) nodes-are ∙ ap (λ (e : NodeEntry). getD (entryBytes e) i 0) (getD-tab 16 (recordEntry s) k zeroEntry a)
-      ∙ entry-byte s (19 + 4 * k) i b
-
-  row-is : (j i : ℕ) → j < 127 → i < 4 → getD (rowBytes (rowAt (recordOf s .rows) j)) i 0 ≡ byte s (83 + 4 * j + i)
-  row-is j i a b =
-      ap (λ l. getD (rowBytes (rowAt l j)) i 0) rows-are ∙ ap (λ (r : Row). getD (rowBytes r) i 0) (getD-tab 127 (recordRow s) j zeroRow a)
-      ∙ row-byte s (83 + 4 * j) i b
-
-  -- the entries' bytes, and those of the rows from a first one on
+  -- the bytes of the entries and of the rows
   pub entry-in : (i : ℕ) → i < 64 → entryByteAt (recordOf s .nodes) i ≡ byte s (19 + i)
   entry-in i h =
-      let z : 19 + 4 * (i / 4) + i % 4 ≡ 19 + i = omega arith in
-      entry-is (i / 4) (i % 4) (omega arith) (omega arith) ∙ ap (byte s) z
+      ap (λ l. entryByteAt l i) nodes-are ∙ table-byte entryBytes zeroEntry (recordEntry s) 16 i (omega arith)
+      ∙ entry-byte s (19 + 4 * (i / 4)) (i % 4) (omega arith) ∙ four-there s 19 i
 
-  pub row-in : (first i : ℕ) → 4 * first + i < 508 → rowByteFrom (recordOf s .rows) first i ≡ byte s (83 + 4 * first + i)
-  row-in first i h =
-      let z : 83 + 4 * (first + i / 4) + i % 4 ≡ 83 + 4 * first + i = omega arith in
-      row-is (first + i / 4) (i % 4) (omega arith) (omega arith) ∙ ap (byte s) z
+  pub row-in : (i : ℕ) → i < 508 → rowByteAt (recordOf s .rows) i ≡ byte s (83 + i)
+  row-in i h =
+      ap (λ l. rowByteAt l i) rows-are ∙ table-byte rowBytes zeroRow (recordRow s) 127 i (omega arith)
+      ∙ row-byte s (83 + 4 * (i / 4)) (i % 4) (omega arith) ∙ four-there s 83 i
 
 module _ (s : List ℕ) (size : length s ≡ 592) (bytes : (o : ℕ) → byte s o < 256) where
   high : (o : ℕ) → highByte (number s o) ≡ byte s o
@@ -151,8 +122,8 @@ module _ (s : List ℕ) (size : length s ≡ 592) (bytes : (o : ℕ) → byte s 
           let z : 19 + (o - 19) ≡ o = omega arith in
           rw (le-ltb o 19 (omega arith), lt-ltb o 83 b) (entry-in s size (o - 19) (omega arith) ∙ ap (byte s) z)
       go (no a) (no b) (yes d) =
-          let z : 83 + 4 * 0 + (o - 83) ≡ o = omega arith in
-          rw (le-ltb o 19 (omega arith), le-ltb o 83 (omega arith), lt-ltb o 591 d) (row-in s size 0 (o - 83) (omega arith) ∙ ap (byte s) z)
+          let z : 83 + (o - 83) ≡ o = omega arith in
+          rw (le-ltb o 19 (omega arith), le-ltb o 83 (omega arith), lt-ltb o 591 d) (row-in s size (o - 83) (omega arith) ∙ ap (byte s) z)
       go (no a) (no b) (no d) =
           let z : o ≡ 591 = omega arith in
           rw (le-ltb o 19 (omega arith), le-ltb o 83 (omega arith), le-ltb o 591 (omega arith)) (profile-is s size ∙ ap (byte s) (sym z))

@@ -1,5 +1,5 @@
 -- The record of bytes: the plan in them where they have its length, else the all-zero record; and the bytes of that one.
-use Prim.Native.Nat.{ℕ, zero, suc, min, _+_, _-_, _/_, _%_, _≤_, _<_}
+use Prim.Native.Nat.{ℕ, zero, suc, min, _-_, _/_, _%_, _≤_, _<_}
 use mathlib.Core.Path.{_≡_, refl, ap, sym, _∙_}
 use mathlib.Core.Bool.{Bool, true, false}
 use mathlib.Core.List.{List, _++_, append-nil}
@@ -57,7 +57,7 @@ zero-byte o h = go (decLt o 19) (decLt o 83) (decLt o 591)
     go : Dec (o < 19) → Dec (o < 83) → Dec (o < 591) → _≡_ {A = ℕ} 0 (recordByte zeroPlan o)
     go (yes a) b d = rw (lt-ltb o 19 a) (sym (all-same 19 o 0))
     go (no a) (yes b) d = rw (le-ltb o 19 (omega arith), lt-ltb o 83 b, all-same 16 ((o - 19) / 4) zeroEntry) (sym (all-same 4 ((o - 19) % 4) 0))
-    go (no a) (no b) (yes d) = rw (le-ltb o 19 (omega arith), le-ltb o 83 (omega arith), lt-ltb o 591 d, all-same 127 (0 + (o - 83) / 4) zeroRow) (sym (all-same 4 ((o - 83) % 4) 0))
+    go (no a) (no b) (yes d) = rw (le-ltb o 19 (omega arith), le-ltb o 83 (omega arith), lt-ltb o 591 d, all-same 127 ((o - 83) / 4) zeroRow) (sym (all-same 4 ((o - 83) % 4) 0))
     go (no a) (no b) (no d) = rw (le-ltb o 19 (omega arith), le-ltb o 83 (omega arith), le-ltb o 591 (omega arith))
 
 -- zeros from the front on are the all-zero record

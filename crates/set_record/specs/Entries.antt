@@ -17,6 +17,14 @@ abbrev pub timesBytes : Times → List ℕ
 timesBytes t =
     twoBytes (t .window) ++ twoBytes (t .stop) ++ twoBytes (t .sleep) ++ twoBytes (t .quiet) ++ twoBytes (t .recovery) ++ twoBytes (t .space) ++ twoBytes (t .start)
 
+-- byte i of places of four bytes each, those of place k given
+abbrev pub fourByteAt : (ℕ → List ℕ) → ℕ → ℕ
+fourByteAt place i = getD (place (i / 4)) (i % 4) 0
+
+-- the four bytes from an offset on
+abbrev pub fourFrom : List ℕ → ℕ → List ℕ
+fourFrom s o = byte s o ∷ byte s (o + 1) ∷ byte s (o + 2) ∷ byte s (o + 3) ∷ []
+
 -- "entries of 4 bytes: address ..; diagnostic class ..; method ..; 0"
 unfoldable pub entryFrom : List ℕ → ℕ → NodeEntry
 entryFrom s o = record { address = byte s o; class = byte s (o + 1); method = byte s (o + 2); reserved = byte s (o + 3) }
@@ -26,7 +34,7 @@ entryBytes e = e .address ∷ e .class ∷ e .method ∷ e .reserved ∷ []
 
 -- byte i of the entries
 abbrev pub entryByteAt : List NodeEntry → ℕ → ℕ
-entryByteAt nodes i = getD (entryBytes (entryAt nodes (i / 4))) (i % 4) 0
+entryByteAt nodes i = fourByteAt (λ k. entryBytes (entryAt nodes k)) i
 
 -- "rows of 4 bytes: ReqId ..; publisher ..; length ..; 1 if it carries a sequence count, else 0"
 unfoldable pub rowFrom : List ℕ → ℕ → Row
@@ -35,6 +43,6 @@ rowFrom s o = record { reqid = byte s o; publisher = byte s (o + 1); length = by
 abbrev pub rowBytes : Row → List ℕ
 rowBytes r = r .reqid ∷ r .publisher ∷ r .length ∷ r .kind ∷ []
 
--- byte i of the rows from a first one on
-abbrev pub rowByteFrom : List Row → ℕ → ℕ → ℕ
-rowByteFrom rows first i = getD (rowBytes (rowAt rows (first + i / 4))) (i % 4) 0
+-- byte i of the rows
+abbrev pub rowByteAt : List Row → ℕ → ℕ
+rowByteAt rows i = fourByteAt (λ j. rowBytes (rowAt rows j)) i

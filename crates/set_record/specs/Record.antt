@@ -11,7 +11,7 @@ use Rattle.set_plan.specs.declared.Times.{Times}
 use Rattle.set_plan.specs.declared.Plan.{Plan}
 use Rattle.set_plan.specs.Limits.{maxNodes, maxRows}
 use Rattle.set_plan.specs.Record.{zeroPlan}
-use Rattle.set_record.specs.Entries.{timesFrom, timesBytes, entryFrom, entryByteAt, rowFrom, rowByteFrom}
+use Rattle.set_record.specs.Entries.{timesFrom, timesBytes, entryFrom, entryByteAt, rowFrom, rowByteAt}
 use Rattle.set_record.specs.Offsets.{revisionAt, nodecountAt, rowcountAt, timesAt, entriesAt, rowsAt, profileAt, recordLength}
 
 -- the entry and the row at a place
@@ -45,7 +45,7 @@ unfoldable pub recordByte : Plan → ℕ → ℕ
 recordByte p o =
     ifElse (ltb o entriesAt) (getD (recordHead (p .revision) (p .nodecount) (p .rowcount) (p .times)) o 0)
     (ifElse (ltb o rowsAt) (entryByteAt (p .nodes) (o - entriesAt))
-    (ifElse (ltb o profileAt) (rowByteFrom (p .rows) 0 (o - rowsAt)) (p .profile)))
+    (ifElse (ltb o profileAt) (rowByteAt (p .rows) (o - rowsAt)) (p .profile)))
 
 unfoldable pub recordBytes : Plan → List ℕ
 recordBytes p = tab recordLength (recordByte p)

@@ -7,6 +7,7 @@ ghost use Rattle.set_plan.specs.Answering.{isPolled};
 ghost use Rattle.set_plan.specs.Find.{findRow, risingRow};
 ghost use Rattle.set_plan.specs.Limits.{maxNodes, maxRows};
 ghost use Rattle.set_plan.specs.Record.{rowsUsed};
+ghost use Rattle.set_record.specs.Entries.{timesFrom};
 ghost use Rattle.set_record.specs.Offsets.{rowcountAt, recordLength};
 ghost use Rattle.set_record.specs.Record.{recordEntry, recordRow, planIn};
 use crate::offsets::ENTRIES_AT;
@@ -15,7 +16,6 @@ use crate::offsets::PROFILE_AT;
 use crate::offsets::REVISION_AT;
 use crate::offsets::ROWCOUNT_AT;
 use crate::offsets::ROWS_AT;
-use crate::offsets::TIMES_AT;
 use base_bytes::number_at;
 use set_plan::Lookup;
 use set_plan::NodeEntry;
@@ -75,17 +75,19 @@ pub(crate) fn row_count_in(bytes: &[u8]) -> u16
     number_at(bytes, ROWCOUNT_AT)
 }
 
-pub(crate) fn times_in(bytes: &[u8]) -> Times
-    ensures { λ r. ⌜ r ≡ planIn (now (bytes .entry)) .times ⌝ }
+// The times from an offset on, in a packed record as in a set.
+pub fn times_at(bytes: &[u8], offset: u8) -> Times
+    ensures { λ r. ⌜ r ≡ timesFrom (now (bytes .entry)) offset ⌝ }
 {
+    let o = offset as usize;
     Times {
-        window: number_at(bytes, TIMES_AT),
-        stop: number_at(bytes, TIMES_AT + 2),
-        sleep: number_at(bytes, TIMES_AT + 4),
-        quiet: number_at(bytes, TIMES_AT + 6),
-        recovery: number_at(bytes, TIMES_AT + 8),
-        space: number_at(bytes, TIMES_AT + 10),
-        start: number_at(bytes, TIMES_AT + 12),
+        window: number_at(bytes, o),
+        stop: number_at(bytes, o + 2),
+        sleep: number_at(bytes, o + 4),
+        quiet: number_at(bytes, o + 6),
+        recovery: number_at(bytes, o + 8),
+        space: number_at(bytes, o + 10),
+        start: number_at(bytes, o + 12),
     }
 }
 
@@ -100,15 +102,16 @@ pub(crate) fn polled_in(bytes: &[u8], node: u8) -> bool
     }
 }
 
+pub fn least(a: usize, b: usize) -> usize
+    ensures { λ r. ⌜ r ≡ min a b ⌝ }
+{
+    if a < b { a } else { b }
+}
+
 fn rows_used(bytes: &[u8]) -> u32
     ensures { λ r. ⌜ (r ≡ rowsUsed (number (now (bytes .entry)) rowcountAt)) × (r ≤ maxRows) ⌝ }
 {
-    let count = row_count_in(bytes);
-    if (count as usize) < Plan::ROWS {
-        count as u32
-    } else {
-        Plan::ROWS as u32
-    }
+    least(row_count_in(bytes) as usize, Plan::ROWS) as u32
 }
 
 // The first row of a ReqId among the rows in use.
@@ -128,19 +131,13 @@ pub(crate) fn row_in(bytes: &[u8], reqid: u8) -> Lookup
     Lookup::Missing
 }
 
-fn least(a: u32, b: u32) -> u32
-    ensures { λ r. ⌜ r ≡ min a b ⌝ }
-{
-    if a < b { a } else { b }
-}
-
 // The last row of a ReqId among those whose place is below it: a few steps down, where rows rise.
 pub(crate) fn rising_row_in(bytes: &[u8], reqid: u8) -> Lookup
     requires { ⌜ length (now bytes) ≡ recordLength ⌝ }
     ensures { λ r. ⌜ r ≡ risingRow (planIn (now (bytes .entry))) reqid ⌝ }
 {
     let count = rows_used(bytes);
-    let mut j = least(reqid as u32, count);
+    let mut j = least(reqid as usize, count as usize) as u32;
     while 0 < j {
         j -= 1;
         let found = row_at(bytes, j);

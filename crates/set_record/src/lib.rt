@@ -6,6 +6,7 @@ ghost use Rattle.set_plan.specs.Find.{findRow, risingRow};
 ghost use Rattle.set_plan.specs.Profile.{sleeps};
 ghost use Rattle.set_plan.specs.Rules.{planRefusal};
 ghost use Rattle.set_record.specs.Record.{recordOf};
+use crate::offsets::TIMES_AT;
 use set_plan::Lookup;
 use set_plan::Plan;
 use set_plan::Times;
@@ -16,6 +17,8 @@ mod packing;
 mod rules;
 mod unpacking;
 
+pub use fields::least;
+pub use fields::times_at;
 pub use offsets::ENTRIES_AT;
 pub use offsets::LENGTH;
 pub use offsets::PROFILE_AT;
@@ -96,7 +99,7 @@ pub fn times_of(bytes: &[u8]) -> Times
     ensures { λ r. ⌜ r ≡ recordOf (now (bytes .entry)) .times ⌝ }
 {
     if bytes.len() == LENGTH {
-        fields::times_in(bytes)
+        fields::times_at(bytes, TIMES_AT)
     } else {
         Times::ZERO
     }

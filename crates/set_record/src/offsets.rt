@@ -8,7 +8,7 @@ pub(crate) const NODECOUNT_AT: usize = 2;
 
 pub(crate) const ROWCOUNT_AT: usize = 3;
 
-pub(crate) const TIMES_AT: usize = 5;
+pub(crate) const TIMES_AT: u8 = 5;
 
 pub const ENTRIES_AT: usize = 19;
 

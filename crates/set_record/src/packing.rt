@@ -6,7 +6,7 @@ ghost use lib.ListN.{length};
 ghost use Rattle.base_bytes.specs.Bytes.{byte};
 ghost use Rattle.base_bytes.specs.Puts.{Put};
 ghost use Rattle.set_plan.specs.Limits.{maxNodes, maxRows};
-ghost use Rattle.set_record.specs.Entries.{entryByteAt, rowByteFrom};
+ghost use Rattle.set_record.specs.Entries.{entryByteAt, rowByteAt};
 ghost use Rattle.set_record.specs.Offsets.{entriesAt, rowsAt};
 ghost use Rattle.set_record.specs.Record.{recordOf, recordHead, recordBytes};
 use crate::offsets::ENTRIES_AT;
@@ -77,7 +77,7 @@ fn put_entries(buffer: &mut [u8], nodes: [NodeEntry; Plan::NODES])
 
 fn put_rows(buffer: &mut [u8], rows: [Row; Plan::ROWS])
     requires { ⌜ rowsAt + 4 * maxRows ≤ length (now buffer) ⌝ }
-    ensures { λ _. ⌜ Put rowsAt (4 * maxRows) (rowByteFrom rows 0) (now (buffer .entry)) (now (buffer .exit)) × (length rows ≡ maxRows) ⌝ }
+    ensures { λ _. ⌜ Put rowsAt (4 * maxRows) (rowByteAt rows) (now (buffer .entry)) (now (buffer .exit)) × (length rows ≡ maxRows) ⌝ }
 {
     let mut j: usize = 0;
     while j < Plan::ROWS {

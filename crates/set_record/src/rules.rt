@@ -9,6 +9,7 @@ ghost use Rattle.set_record.specs.Offsets.{recordLength};
 ghost use Rattle.set_record.specs.Record.{nodesIn, rowsIn, planIn};
 ghost use Rattle.set_record.specs.RowsRefusal.{rowsRefusal};
 use crate::fields;
+use crate::offsets::TIMES_AT;
 use set_plan::Plan;
 
 // A byte as an index of a table of 256.
@@ -77,7 +78,7 @@ pub(crate) fn refusal_in(bytes: &[u8]) -> u8
     if fields::revision_in(bytes) == 0 {
         return 4;
     }
-    let times = fields::times_in(bytes);
+    let times = fields::times_at(bytes, TIMES_AT);
     if !set_plan::times_right(times) {
         return 5;
     }

@@ -4,6 +4,7 @@ ghost use lib.ListN.{length};
 ghost use Rattle.set_record.specs.Offsets.{recordLength};
 ghost use Rattle.set_record.specs.Record.{nodesIn, rowsIn, planIn};
 use crate::fields;
+use crate::offsets::TIMES_AT;
 use set_plan::NodeEntry;
 use set_plan::Plan;
 use set_plan::Row;
@@ -38,7 +39,7 @@ pub(crate) fn plan_in(bytes: &[u8]) -> Plan
     requires { ⌜ length (now bytes) ≡ recordLength ⌝ }
     ensures { λ r. ⌜ r ≡ planIn (now (bytes .entry)) ⌝ }
 {
-    let times = fields::times_in(bytes);
+    let times = fields::times_at(bytes, TIMES_AT);
     let nodes = nodes_in(bytes);
     let rows = rows_in(bytes);
     Plan {

@@ -2,7 +2,7 @@
 use Prim.Native.Nat.{ℕ, _+_, _*_, _-_, _≤_, _<_}
 use mathlib.Core.Path.{_≡_, refl, ap, _∙_}
 use mathlib.Core.Bool.{Bool, true, false}
-use lib.ListN.{length, getD}
+use lib.ListN.{length}
 use lib.Dec.{leb, ltb}
 use native.Mathlib.Omega.{arith}
 use borrow.Author.Tests.{eq-eqb, ne-eqb, leb-true, leb-false, ltb-true, ltb-false}
@@ -12,9 +12,9 @@ use Rattle.base_bytes.specs.Bytes.{byte, number}
 use Rattle.base_bytes.proofs.Halves.{from-halves}
 use Rattle.set_plan.specs.declared.Plan.{Plan}
 use Rattle.set_plan.specs.Record.{entryAt, rowAt, usedEntry, usedRow, unusedZero}
-use Rattle.set_record.specs.Entries.{timesFrom, entryFrom, rowFrom}
+use Rattle.set_record.specs.Entries.{timesFrom, entryFrom, rowFrom, rowByteAt}
+use Rattle.set_record.proofs.FourBytes.{entry-from, row-from}
 use Rattle.set_reader.specs.Layout.{nodeOf, nodesOf, rowcountOf, rowPlace, rowOf, rowsOf, planOf}
-use Rattle.set_record.specs.Entries.{entryBytes, rowBytes}
 use Rattle.set_writer.specs.Write.{planHead, rowsIn, messageHead, writeSet}
 use Rattle.set_writer.proofs.SetLengths.{blockCount, length-short, length-long}
 use Rattle.set_writer.proofs.SetBytes.{set-long, head-byte, node-byte, message-head, message-row}
@@ -59,17 +59,9 @@ module _ (p : Plan) (few-nodes : p .nodecount ≤ 16) (few-rows : p .rowcount �
           rw (ne-eqb (length (writeSet p)) 1024 (λ q. omega arith)) (ap (λ x. 100 + x) (message-head p 2 (omega arith) (rw e (omega arith)) 4 (omega arith)) ∙ omega arith)
 
   entry-back : (k : ℕ) → k < p .nodecount → entryFrom (writeSet p) (32 + 4 * k) ≡ entryAt (p .nodes) k
-  unfolding entryFrom
-  entry-back k h =
-      λ i. record {
-        address = at 0 (32 + 4 * k) (omega arith) (omega arith) i;
-        class = at 1 (32 + 4 * k + 1) (omega arith) refl i;
-        method = at 2 (32 + 4 * k + 2) (omega arith) refl i;
-        reserved = at 3 (32 + 4 * k + 3) (omega arith) refl i;
-      }
-    where
-      at : (m o : ℕ) → m < 4 → o ≡ 32 + 4 * k + m → byte (writeSet p) o ≡ getD (entryBytes (entryAt (p .nodes) k)) m 0
-      at m o a b = rw b (node-byte p k m h few-nodes a)
+  entry-back k h = entry-from (writeSet p) (p .nodes) (32 + 4 * k) k (λ m q.
+      let o : 32 + 4 * k + m ≡ 32 + (4 * k + m) = omega arith in
+      rw o (node-byte p (4 * k + m) (omega arith) few-nodes))
 
   pub nodes-back : nodesOf (writeSet p) (byte (writeSet p) 4) ≡ tab 16 (usedEntry p)
   unfolding nodesOf nodeOf usedEntry
@@ -80,16 +72,16 @@ module _ (p : Plan) (few-nodes : p .nodecount ≤ 16) (few-rows : p .rowcount �
       go k false e = rw e
 
   -- byte m of row j
-  row-byte : (j m : ℕ) → j < p .rowcount → m < 4 → byte (writeSet p) (rowPlace j + m) ≡ getD (rowBytes (rowAt (p .rows) j)) m 0
+  row-byte : (j m : ℕ) → j < p .rowcount → m < 4 → byte (writeSet p) (rowPlace j + m) ≡ rowByteAt (p .rows) (4 * j + m)
   unfolding rowPlace rowsIn
   row-byte j m h q = go (ltb j 100) refl (leb (p .rowcount) 100) refl
     where
-      go : (a : Bool) → ltb j 100 ≡ a → (b : Bool) → leb (p .rowcount) 100 ≡ b → byte (writeSet p) (rowPlace j + m) ≡ getD (rowBytes (rowAt (p .rows) j)) m 0
+      go : (a : Bool) → ltb j 100 ≡ a → (b : Bool) → leb (p .rowcount) 100 ≡ b → byte (writeSet p) (rowPlace j + m) ≡ rowByteAt (p .rows) (4 * j + m)
       go true e b f =
           let near : j < 100 = ltb-true _ _ e in
-          let o : 520 + 4 * j + m ≡ 512 * 1 + (8 + 4 * j + m) = omega arith in
-          let z : 100 * (1 - 1) + j ≡ j = omega arith in
-          rw (e, o) (message-row p 1 (omega arith) (early b f) j m (omega arith) (omega arith) q ∙ ap (λ k. getD (rowBytes (rowAt (p .rows) k)) m 0) z)
+          let o : 520 + 4 * j + m ≡ 512 * 1 + (8 + (4 * j + m)) = omega arith in
+          let z : 400 * (1 - 1) + (4 * j + m) ≡ 4 * j + m = omega arith in
+          rw (e, o) (message-row p 1 (omega arith) (early b f) (4 * j + m) (omega arith) (omega arith) ∙ ap (rowByteAt (p .rows)) z)
         where
           early : (b : Bool) → leb (p .rowcount) 100 ≡ b → 1 < blockCount (p .rowcount)
           early true f = rw f (omega arith)
@@ -97,20 +89,13 @@ module _ (p : Plan) (few-nodes : p .nodecount ≤ 16) (few-rows : p .rowcount �
       go false e true f = absurd (omega (arith, ltb-false j 100 e, leb-true (p .rowcount) 100 f))
       go false e false f =
           let far : 100 ≤ j = ltb-false _ _ e in
-          let o : 632 + 4 * j + m ≡ 512 * 2 + (8 + 4 * (j - 100) + m) = omega arith in
-          let z : 100 + (j - 100) ≡ j = omega arith in
-          rw (e, o) (message-row p 2 (omega arith) (rw f (omega arith)) (j - 100) m (omega arith) (omega arith) q ∙ ap (λ k. getD (rowBytes (rowAt (p .rows) k)) m 0) z)
+          let i = 4 * (j - 100) + m in
+          let o : 632 + 4 * j + m ≡ 512 * 2 + (8 + i) = omega arith in
+          let z : 400 * (2 - 1) + i ≡ 4 * j + m = omega arith in
+          rw (e, o) (message-row p 2 (omega arith) (rw f (omega arith)) i (omega arith) (omega arith) ∙ ap (rowByteAt (p .rows)) z)
 
   row-back : (j : ℕ) → j < p .rowcount → rowFrom (writeSet p) (rowPlace j) ≡ rowAt (p .rows) j
-  unfolding rowFrom
-  row-back j h =
-      let z : rowPlace j + 0 ≡ rowPlace j = omega arith in
-      λ i. record {
-        reqid = (rw z at (row-byte j 0 h (omega arith))) i;
-        publisher = row-byte j 1 h (omega arith) i;
-        length = row-byte j 2 h (omega arith) i;
-        kind = row-byte j 3 h (omega arith) i;
-      }
+  row-back j h = row-from (writeSet p) (p .rows) (rowPlace j) j (λ m q. row-byte j m h q)
 
   pub rows-back : rowsOf (writeSet p) (rowcountOf (writeSet p)) ≡ tab 127 (usedRow p)
   unfolding rowsOf rowOf usedRow

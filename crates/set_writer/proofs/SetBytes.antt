@@ -12,8 +12,7 @@ use Rattle.base_lists.proofs.Tables.{length-tab, getD-tab}
 use Rattle.base_bytes.specs.Bytes.{number}
 use Rattle.base_bytes.specs.Check.{blockCheck}
 use Rattle.set_plan.specs.declared.Plan.{Plan}
-use Rattle.set_plan.specs.Record.{entryAt, rowAt}
-use Rattle.set_record.specs.Entries.{entryBytes, rowBytes}
+use Rattle.set_record.specs.Entries.{entryByteAt, rowByteAt}
 use Rattle.set_writer.specs.Write.{planHead, planByte, rowsIn, messageHead, messageByte, dataByte, setLength, withChecks, writeSet}
 use Rattle.set_writer.proofs.SetLengths.{blockCount, length-least, length-blocks}
 use Rattle.set_writer.proofs.Checks.{firstChecks, length-checks, checks-append, checks-data, checks-stored, check-kept-all}
@@ -59,14 +58,13 @@ module _ (p : Plan) where
   unfolding dataByte planByte
   head-byte o h = set-data o (omega (arith, length-least (p .rowcount))) (omega arith) ∙ rw (lt-ltb o 512 (omega arith), lt-ltb o 32 h)
 
-  pub node-byte : (k i : ℕ) → k < p .nodecount → p .nodecount ≤ 16 → i < 4 → getD (writeSet p) (32 + 4 * k + i) 0 ≡ getD (entryBytes (entryAt (p .nodes) k)) i 0
+  pub node-byte : (i : ℕ) → i < 4 * p .nodecount → p .nodecount ≤ 16 → getD (writeSet p) (32 + i) 0 ≡ entryByteAt (p .nodes) i
   unfolding dataByte planByte
-  node-byte k i h m q =
-      let o = 32 + 4 * k + i in
-      let a : (o - 32) / 4 ≡ k = omega arith in
-      let b : (o - 32) % 4 ≡ i = omega arith in
+  node-byte i h m =
+      let o = 32 + i in
+      let a : o - 32 ≡ i = omega arith in
       set-data o (omega (arith, length-least (p .rowcount))) (omega arith)
-      ∙ rw (lt-ltb o 512 (omega arith), le-ltb o 32 (omega arith), lt-ltb o (32 + 4 * p .nodecount) (omega arith), a, b)
+      ∙ rw (lt-ltb o 512 (omega arith), le-ltb o 32 (omega arith), lt-ltb o (32 + 4 * p .nodecount) (omega arith), a)
 
   pub plan-filler : (o : ℕ) → 32 + 4 * p .nodecount ≤ o → o < 510 → getD (writeSet p) o 0 ≡ 0
   unfolding dataByte planByte
@@ -87,14 +85,12 @@ module _ (p : Plan) where
     unfolding messageByte
     message-head o h = message-byte o (omega arith) ∙ rw (lt-ltb o 8 h)
 
-    pub message-row : (k i : ℕ) → k < rowsIn (p .rowcount) b → rowsIn (p .rowcount) b ≤ 100 → i < 4
-        → getD (writeSet p) (512 * b + (8 + 4 * k + i)) 0 ≡ getD (rowBytes (rowAt (p .rows) (100 * (b - 1) + k))) i 0
+    pub message-row : (i : ℕ) → i < 4 * rowsIn (p .rowcount) b → rowsIn (p .rowcount) b ≤ 100 → getD (writeSet p) (512 * b + (8 + i)) 0 ≡ rowByteAt (p .rows) (400 * (b - 1) + i)
     unfolding messageByte
-    message-row k i h m q =
-        let o = 8 + 4 * k + i in
-        let a : (o - 8) / 4 ≡ k = omega arith in
-        let c : (o - 8) % 4 ≡ i = omega arith in
-        message-byte o (omega arith) ∙ rw (le-ltb o 8 (omega arith), lt-ltb o (8 + 4 * rowsIn (p .rowcount) b) (omega arith), a, c)
+    message-row i h m =
+        let o = 8 + i in
+        let a : o - 8 ≡ i = omega arith in
+        message-byte o (omega arith) ∙ rw (le-ltb o 8 (omega arith), lt-ltb o (8 + 4 * rowsIn (p .rowcount) b) (omega arith), a)
 
     pub message-filler : (o : ℕ) → 8 + 4 * rowsIn (p .rowcount) b ≤ o → o < 510 → getD (writeSet p) (512 * b + o) 0 ≡ 0
     unfolding messageByte

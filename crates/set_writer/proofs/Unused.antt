@@ -36,19 +36,19 @@ module _ (p : Plan) where
         go (no a) (no b) = rw (le-ltb o 32 (omega arith), le-ltb o (32 + 4 * p .nodecount) (omega arith))
 
     -- a row of message block b is one of the rows in use
-    used : (b k : ℕ) → 1 ≤ b → b < 3 → k < rowsIn (p .rowcount) b → 100 * (b - 1) + k < p .rowcount
+    used : (b i : ℕ) → 1 ≤ b → b < 3 → i < 4 * rowsIn (p .rowcount) b → (400 * (b - 1) + i) / 4 < p .rowcount
     unfolding rowsIn
-    used b k x y h = go (eqb b 1) refl
+    used b i x y h = go (eqb b 1) refl
       where
-        go : (c : Bool) → eqb b 1 ≡ c → 100 * (b - 1) + k < p .rowcount
+        go : (c : Bool) → eqb b 1 ≡ c → (400 * (b - 1) + i) / 4 < p .rowcount
         go true e =
             let z : b ≡ 1 = eqb-true _ _ e in
-            let q : k < min (p .rowcount) 100 = rw e at h in
+            let q : i < 4 * min (p .rowcount) 100 = rw e at h in
             omega arith
         go false e =
             let n : b ≡ 1 → ⊥ = eqb-false b 1 e in
             let z : b ≡ 2 = omega arith in
-            let q : k < p .rowcount - 100 = rw e at h in
+            let q : i < 4 * (p .rowcount - 100) = rw e at h in
             omega arith
 
     message-same : (b o : ℕ) → 1 ≤ b → b < 3 → messageByte (unusedZero p) b o ≡ messageByte p b o
@@ -58,9 +58,10 @@ module _ (p : Plan) where
         go : Dec (o < 8) → Dec (o < 8 + 4 * rowsIn (p .rowcount) b) → messageByte (unusedZero p) b o ≡ messageByte p b o
         go (yes a) c = rw (lt-ltb o 8 a)
         go (no a) (yes c) =
-            let h : 100 * (b - 1) + (o - 8) / 4 < p .rowcount = used b ((o - 8) / 4) x y (omega arith) in
+            let i = 400 * (b - 1) + (o - 8) in
+            let h : i / 4 < p .rowcount = used b (o - 8) x y (omega arith) in
             rw (le-ltb o 8 (omega arith), lt-ltb o (8 + 4 * rowsIn (p .rowcount) b) c)
-            (ap (λ (r : Row). getD (rowBytes r) ((o - 8) % 4) 0) (row-same p (100 * (b - 1) + (o - 8) / 4) (omega arith) h))
+            (ap (λ (r : Row). getD (rowBytes r) (i % 4) 0) (row-same p (i / 4) (omega arith) h))
         go (no a) (no c) = rw (le-ltb o 8 (omega arith), le-ltb o (8 + 4 * rowsIn (p .rowcount) b) (omega arith))
 
     data-same : (o : ℕ) → o < 1536 → dataByte (unusedZero p) o ≡ dataByte p o

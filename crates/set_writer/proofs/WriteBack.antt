@@ -1,5 +1,5 @@
 -- An accepted set is the set of its record.
-use Prim.Native.Nat.{ℕ, zero, suc, _+_, _*_, _-_, _/_, _%_, _≤_, _<_}
+use Prim.Native.Nat.{ℕ, zero, suc, _+_, _*_, _-_, _/_, _%_, _≤_, _<_, min}
 use mathlib.Core.Path.{_≡_, refl, ap, sym, _∙_}
 use mathlib.Core.List.{List}
 use mathlib.Core.Bool.{Bool, true, false, _&&_, _||_}
@@ -15,20 +15,16 @@ use Rattle.base_lists.proofs.AllAny.{all-at, and-l, and-r, halves}
 use Rattle.base_lists.proofs.Tables.{getD-tab}
 use Rattle.base_bytes.specs.Bytes.{byte, number, highByte, lowByte}
 use Rattle.base_bytes.proofs.Halves.{high-at, low-at}
-use Rattle.set_plan.specs.declared.NodeEntry.{NodeEntry}
-use Rattle.set_plan.specs.declared.Row.{Row}
-use Rattle.set_plan.specs.Record.{zeroEntry, zeroRow, entryAt, rowAt}
 use Rattle.set_plan.specs.Rules.{inRange}
 use Rattle.set_plan.proofs.Accepted.{Accepted, accepted, nodes-few, rows-few}
-use Rattle.set_record.specs.Entries.{timesFrom}
-use Rattle.set_reader.specs.Layout.{oneMessageBlock, nodeOf, nodesOf, rowcountOf, rowPlace, rowOf, rowsOf, planOf}
+use Rattle.set_record.specs.Entries.{timesFrom, rowByteAt}
+use Rattle.set_reader.specs.Layout.{oneMessageBlock, rowcountOf, planOf}
 use Rattle.set_reader.specs.Rules.{eachBlock, lengthRight, checkRight, checksRight, blockType, typeRight, typesRight, revisionSame, revisionsSame, countsRight, messageNamed, named, fillerAt, fillerRight}
 use Rattle.set_reader.proofs.Accepted.{AcceptedSet}
-use Rattle.set_record.specs.Entries.{entryBytes, rowBytes}
 use Rattle.set_writer.specs.Write.{planHead, planByte, rowsIn, messageHead, messageByte, dataByte, setLength, writeSet}
 use Rattle.set_writer.proofs.SetLengths.{blockCount, length-blocks}
 use Rattle.set_writer.proofs.Checks.{check-ext}
-use Rattle.set_record.proofs.FourBytes.{entry-byte, row-byte}
+use Rattle.set_reader.proofs.SetRecord.{entry-used, row-first, row-second}
 use Rattle.set_writer.proofs.SetBytes.{set-long, set-data, set-check, set-low}
 
 filler-at : (s : List ℕ) → fillerRight s ≡ true → (o : ℕ) → o < length s → (named s o || eqb (byte s o) 0) ≡ true
@@ -159,12 +155,6 @@ module _ (s : List ℕ) (r : AcceptedSet s) where
     unfolding planOf
     nodes-bound = nodes-few (planOf s) (kept .nodes)
 
-    -- byte i of the entry of node k
-    entry-is : (k i : ℕ) → k < byte s 4 → i < 4 → getD (entryBytes (entryAt (planOf s .nodes) k)) i 0 ≡ byte s (32 + 4 * k + i)
-    unfolding planOf nodesOf nodeOf
-    entry-is k i a b =
-        ap (λ (e : NodeEntry). getD (entryBytes e) i 0) (getD-tab 16 (nodeOf s (byte s 4)) k zeroEntry (omega (arith, nodes-bound)) ∙ rw (lt-ltb k (byte s 4) a)) ∙ entry-byte s (32 + 4 * k) i b
-
     no-plan-name : (o : ℕ) → 32 + 4 * byte s 4 ≤ o → o < 510 → named s o ≡ false
     unfolding named
     no-plan-name o a b = rw (lt-ltb o 512 (omega arith), le-ltb o 20 (omega arith), le-leb 32 o (omega arith), le-ltb o (32 + 4 * byte s 4) a, lt-leb 510 o b)
@@ -176,10 +166,8 @@ module _ (s : List ℕ) (r : AcceptedSet s) where
         go : Dec (o < 32) → Dec (o < 32 + 4 * byte s 4) → planByte (planOf s) o ≡ byte s o
         go (yes a) b = rw (lt-ltb o 32 a) (ap (λ l. getD l o 0) head-is ∙ getD-tab 32 (byte s) o 0 a)
         go (no a) (yes b) =
-            let k = (o - 32) / 4 in
-            let i = (o - 32) % 4 in
-            let z : 32 + 4 * k + i ≡ o = omega arith in
-            rw (le-ltb o 32 (omega arith), lt-ltb o (32 + 4 * byte s 4) b) (entry-is k i (omega arith) (omega arith) ∙ ap (byte s) z)
+            let z : 32 + (o - 32) ≡ o = omega arith in
+            rw (le-ltb o 32 (omega arith), lt-ltb o (32 + 4 * byte s 4) b) (entry-used s (byte s 4) (o - 32) (omega (arith, nodes-bound)) ∙ ap (byte s) z)
         go (no a) (no b) = rw (le-ltb o 32 (omega arith), le-ltb o (32 + 4 * byte s 4) (omega arith)) (sym (zero-at o (omega arith) (no-plan-name o (omega arith) (omega arith))))
 
     -- a message block
@@ -235,53 +223,48 @@ module _ (s : List ℕ) (r : AcceptedSet s) where
           let d : byte s (512 * b + 0) ≡ 0x4d = ap (byte s) z ∙ m .0 ∙ k in
           cc (d, m .1, a, c, blank 5 (omega arith) refl, blank 6 (omega arith) refl, blank 7 (omega arith) refl)
 
-      place-is : (k : ℕ) → k < byte s (512 * b + 4) → (100 * (b - 1) + k < planOf s .rowcount) × (rowPlace (100 * (b - 1) + k) ≡ 512 * b + (8 + 4 * k))
-      unfolding rowPlace
-      place-is k q = ⊎-elim short-set long-set size-of
+      row-is : (i : ℕ) → i < 4 * byte s (512 * b + 4) → rowByteAt (planOf s .rows) (400 * (b - 1) + i) ≡ byte s (512 * b + (8 + i))
+      unfolding planOf
+      row-is i q = ⊎-elim short-set long-set size-of
         where
-          near : b ≡ 1 → (100 * (b - 1) + k < planOf s .rowcount) → k < 100 → (100 * (b - 1) + k < planOf s .rowcount) × (rowPlace (100 * (b - 1) + k) ≡ 512 * b + (8 + 4 * k))
-          near e a c = (a, rw (lt-ltb (100 * (b - 1) + k) 100 (omega arith)) (omega arith))
+          near : b ≡ 1 → i < 4 * min (rowcountOf s) 100 → rowByteAt (planOf s .rows) (400 * (b - 1) + i) ≡ byte s (512 * b + (8 + i))
+          near e h = row-first s (rowcountOf s) (400 * (b - 1) + i) (omega arith) ∙ ap (byte s) (omega arith)
 
-          short-set : Short s → (100 * (b - 1) + k < planOf s .rowcount) × (rowPlace (100 * (b - 1) + k) ≡ 512 * b + (8 + 4 * k))
+          short-set : Short s → rowByteAt (planOf s .rows) (400 * (b - 1) + i) ≡ byte s (512 * b + (8 + i))
           short-set w =
               let e : b ≡ 1 = omega arith in
               let f : byte s (512 * b + 4) ≡ byte s 516 = ap (byte s) (omega arith) in
-              near e (omega arith) (omega arith)
+              let c : rowcountOf s ≡ byte s 516 = w .count in
+              near e (omega (arith, w .few))
 
-          long-set : Long s → (100 * (b - 1) + k < planOf s .rowcount) × (rowPlace (100 * (b - 1) + k) ≡ 512 * b + (8 + 4 * k))
+          long-set : Long s → rowByteAt (planOf s .rows) (400 * (b - 1) + i) ≡ byte s (512 * b + (8 + i))
           long-set w = go (eqb b 1) refl
             where
-              go : (c : Bool) → eqb b 1 ≡ c → (100 * (b - 1) + k < planOf s .rowcount) × (rowPlace (100 * (b - 1) + k) ≡ 512 * b + (8 + 4 * k))
+              c : rowcountOf s ≡ 100 + byte s 1028
+              c = w .count
+
+              go : (x : Bool) → eqb b 1 ≡ x → rowByteAt (planOf s .rows) (400 * (b - 1) + i) ≡ byte s (512 * b + (8 + i))
               go true u =
                   let e : b ≡ 1 = eqb-true _ _ u in
                   let f : byte s (512 * b + 4) ≡ byte s 516 = ap (byte s) (omega arith) in
-                  near e (omega arith) (omega arith)
+                  near e (omega (arith, c, w .full))
               go false u =
                   let v : b ≡ 1 → ⊥ = eqb-false b 1 u in
                   let e : b ≡ 2 = omega arith in
                   let f : byte s (512 * b + 4) ≡ byte s 1028 = ap (byte s) (omega arith) in
-                  (omega arith, rw (le-ltb (100 * (b - 1) + k) 100 (omega arith)) (omega arith))
-
-      row-is : (k i : ℕ) → k < byte s (512 * b + 4) → i < 4 → getD (rowBytes (rowAt (planOf s .rows) (100 * (b - 1) + k))) i 0 ≡ byte s (512 * b + (8 + 4 * k + i))
-      unfolding planOf rowsOf rowOf
-      row-is k i a q =
-          ap (λ (e : Row). getD (rowBytes e) i 0) (getD-tab 127 (rowOf s (rowcountOf s)) j zeroRow (omega (arith, place-is k a .0, rows-few (planOf s) (kept .rows))) ∙ rw (lt-ltb j (rowcountOf s) (place-is k a .0), place-is k a .1)) ∙ row-byte s (512 * b + (8 + 4 * k)) i q ∙ ap (byte s) (omega arith)
-        where
-          j : ℕ
-          j = 100 * (b - 1) + k
+                  let m : rowcountOf s ≤ 127 = rows-few (planOf s) (kept .rows) in
+                  row-second s (rowcountOf s) (400 * (b - 1) + i) (omega arith) (omega (arith, c)) ∙ ap (byte s) (omega arith)
 
       message-data : (o : ℕ) → o < 510 → messageByte (planOf s) b o ≡ byte s (512 * b + o)
       unfolding messageByte
       message-data o q = rw (rows-is .0) (go (decLt o 8) (decLt o (8 + 4 * byte s (512 * b + 4))))
         where
           go : Dec (o < 8) → Dec (o < 8 + 4 * byte s (512 * b + 4))
-              → ifElse (ltb o 8) (getD (messageHead (planOf s .revision) (byte s (512 * b + 4))) o 0) (ifElse (ltb o (8 + 4 * byte s (512 * b + 4))) (getD (rowBytes (rowAt (planOf s .rows) (100 * (b - 1) + (o - 8) / 4))) ((o - 8) % 4) 0) 0) ≡ byte s (512 * b + o)
+              → ifElse (ltb o 8) (getD (messageHead (planOf s .revision) (byte s (512 * b + 4))) o 0) (ifElse (ltb o (8 + 4 * byte s (512 * b + 4))) (rowByteAt (planOf s .rows) (400 * (b - 1) + (o - 8))) 0) ≡ byte s (512 * b + o)
           go (yes a) c = rw (lt-ltb o 8 a) (ap (λ l. getD l o 0) message-head-is ∙ getD-tab 8 (λ i. byte s (512 * b + i)) o 0 a)
           go (no a) (yes c) =
-              let k = (o - 8) / 4 in
-              let i = (o - 8) % 4 in
-              let z : 512 * b + (8 + 4 * k + i) ≡ 512 * b + o = omega arith in
-              rw (le-ltb o 8 (omega arith), lt-ltb o (8 + 4 * byte s (512 * b + 4)) c) (row-is k i (omega arith) (omega arith) ∙ ap (byte s) z)
+              let z : 512 * b + (8 + (o - 8)) ≡ 512 * b + o = omega arith in
+              rw (le-ltb o 8 (omega arith), lt-ltb o (8 + 4 * byte s (512 * b + 4)) c) (row-is (o - 8) (omega arith) ∙ ap (byte s) z)
           go (no a) (no c) =
               rw (le-ltb o 8 (omega arith), le-ltb o (8 + 4 * byte s (512 * b + 4)) (omega arith))
               (sym (blank o (omega arith) (rw (le-ltb o 5 (omega arith), le-leb 8 o (omega arith), le-ltb o (8 + 4 * byte s (512 * b + 4)) (omega arith), lt-leb 510 o q))))

@@ -9,9 +9,8 @@ use Rattle.base_bytes.specs.Check.{blockCheck}
 use Rattle.base_bytes.specs.Limits.{blockLength}
 use Rattle.set_plan.specs.declared.Plan.{Plan}
 use Rattle.set_plan.specs.Limits.{blockRows}
-use Rattle.set_plan.specs.Record.{entryAt, rowAt}
 use Rattle.set_plan.specs.Rules.{planRefusal}
-use Rattle.set_record.specs.Entries.{timesBytes, entryBytes, rowBytes}
+use Rattle.set_record.specs.Entries.{timesBytes, entryByteAt, rowByteAt}
 use Rattle.set_writer.specs.declared.WriteAnswer.{WriteAnswer}
 
 -- the first 32 bytes of the plan block: "0 = 50 hex; 1 = 1; 2-3 revision ..; 4 = N ..; 6-19 seven times", and "byte 5" the profile
@@ -23,7 +22,7 @@ planHead p =
 unfoldable pub planByte : Plan → ℕ → ℕ
 planByte p o =
     ifElse (ltb o 32) (getD (planHead p) o 0)
-    (ifElse (ltb o (32 + 4 * p .nodecount)) (getD (entryBytes (entryAt (p .nodes) ((o - 32) / 4))) ((o - 32) % 4) 0)
+    (ifElse (ltb o (32 + 4 * p .nodecount)) (entryByteAt (p .nodes) (o - 32))
     0)
 
 -- rows in message block b, 1 or 2: "1 to 100, exactly 100 in the first of two"
@@ -38,7 +37,7 @@ messageHead revision rows = 0x4d ∷ 1 ∷ twoBytes revision ++ rows ∷ 0 ∷ 0
 unfoldable pub messageByte : Plan → ℕ → ℕ → ℕ
 messageByte p b o =
     ifElse (ltb o 8) (getD (messageHead (p .revision) (rowsIn (p .rowcount) b)) o 0)
-    (ifElse (ltb o (8 + 4 * rowsIn (p .rowcount) b)) (getD (rowBytes (rowAt (p .rows) (blockRows * (b - 1) + (o - 8) / 4))) ((o - 8) % 4) 0)
+    (ifElse (ltb o (8 + 4 * rowsIn (p .rowcount) b)) (rowByteAt (p .rows) (4 * blockRows * (b - 1) + (o - 8)))
     0)
 
 -- byte o of the set, checks left 0: "512-byte blocks: one plan block, then one or two message blocks"

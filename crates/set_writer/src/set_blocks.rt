@@ -15,10 +15,14 @@ use base_bytes::block_check;
 use base_bytes::put;
 use base_bytes::put_zeros;
 use set_plan::Plan;
-use set_record::ENTRIES_AT;
-use set_record::ROWS_AT;
+use set_reader::CHECK_AT;
+use set_reader::ENTRIES_AT;
+use set_reader::LONG_LENGTH;
+use set_reader::ROWS_AT;
+use set_reader::SHORT_LENGTH;
+use set_record::least;
 
-fn plan_head(plan: &[u8]) -> [u8; 32]
+fn plan_head(plan: &[u8]) -> [u8; ENTRIES_AT]
     ensures { λ r. ⌜ r ≡ planHead (recordOf (now (plan .entry))) ⌝ }
 {
     let t = set_record::times_of(plan);
@@ -66,22 +70,11 @@ fn rows_in(count: u16, b: usize) -> u16
     requires { ⌜ (1 ≤ b) × (b < 3) × (count ≤ maxRows) ⌝ }
     ensures { λ r. ⌜ (r ≡ rowsIn count b) × (r ≤ blockRows) × (blockRows * (b - 1) + r ≤ maxRows) ⌝ }
 {
-    if b == 1 {
-        if count <= Plan::BLOCK_ROWS {
-            count
-        } else {
-            Plan::BLOCK_ROWS
-        }
-    } else {
-        if count <= Plan::BLOCK_ROWS {
-            0
-        } else {
-            count - Plan::BLOCK_ROWS
-        }
-    }
+    let first = least(count as usize, Plan::BLOCK_ROWS as usize) as u16;
+    if b == 1 { first } else { count - first }
 }
 
-fn message_head(revision: u16, rowcount: u16, b: usize) -> [u8; 8]
+fn message_head(revision: u16, rowcount: u16, b: usize) -> [u8; ROWS_AT]
     requires { ⌜ (1 ≤ b) × (b < 3) × (rowcount ≤ maxRows) ⌝ }
     ensures { λ r. ⌜ r ≡ messageHead revision (rowsIn rowcount b) ⌝ }
 {
@@ -105,8 +98,13 @@ fn put_plan(plan: &[u8], buffer: &mut [u8])
     let end = 4 * (set_record::node_count(plan) as usize);
     let head = plan_head(plan);
     put(buffer, 0, &head[..]);
-    put(buffer, 32, &plan[ENTRIES_AT..ENTRIES_AT + end]);
-    put_zeros(buffer, 32 + end, 480 - end);
+    put(
+        buffer,
+        ENTRIES_AT,
+        &plan[set_record::ENTRIES_AT..set_record::ENTRIES_AT + end],
+    );
+    let filler = ENTRIES_AT + end;
+    put_zeros(buffer, filler, BLOCK_LENGTH - filler);
 }
 
 fn put_message(plan: &[u8], buffer: &mut [u8], b: usize)
@@ -115,11 +113,16 @@ fn put_message(plan: &[u8], buffer: &mut [u8], b: usize)
 {
     let rowcount = set_record::row_count(plan);
     let end = 4 * (rows_in(rowcount, b) as usize);
-    let first = ROWS_AT + 4 * (Plan::BLOCK_ROWS as usize) * (b - 1);
+    let first = set_record::ROWS_AT + 4 * (Plan::BLOCK_ROWS as usize) * (b - 1);
     let head = message_head(set_record::revision_of(plan), rowcount, b);
     put(buffer, BLOCK_LENGTH * b, &head[..]);
-    put(buffer, BLOCK_LENGTH * b + 8, &plan[first..first + end]);
-    put_zeros(buffer, BLOCK_LENGTH * b + 8 + end, 504 - end);
+    put(
+        buffer,
+        BLOCK_LENGTH * b + ROWS_AT,
+        &plan[first..first + end],
+    );
+    let filler = ROWS_AT + end;
+    put_zeros(buffer, BLOCK_LENGTH * b + filler, BLOCK_LENGTH - filler);
 }
 
 // Puts every byte of the set but the checks, which are left 0.
@@ -139,17 +142,18 @@ fn put_check(buffer: &mut [u8], b: usize)
     ensures { λ _. ⌜ now (buffer .exit) ≡ withCheck (now (buffer .entry)) b ⌝ }
 {
     let check = block_check(&buffer[..], BLOCK_LENGTH * b);
-    buffer[BLOCK_LENGTH * b + 510] = (check / 256) as u8;
-    buffer[BLOCK_LENGTH * b + 511] = (check % 256) as u8;
+    let at = BLOCK_LENGTH * b + CHECK_AT;
+    buffer[at] = (check / 256) as u8;
+    buffer[at + 1] = (check % 256) as u8;
 }
 
 pub(crate) fn set_length(rowcount: u16) -> usize
     ensures { λ r. ⌜ r ≡ setLength rowcount ⌝ }
 {
     if rowcount <= Plan::BLOCK_ROWS {
-        1024
+        SHORT_LENGTH
     } else {
-        1536
+        LONG_LENGTH
     }
 }
 

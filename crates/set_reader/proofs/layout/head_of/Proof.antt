@@ -12,8 +12,8 @@ byte-at-requires c κs = search needs
 rowcount-of-requires : tie.Need-rowcount-of-requires
 rowcount-of-requires c κs = search needs
 
-times-of-requires : tie.Need-times-of-requires
-times-of-requires c κs = search needs
+times-at-requires : tie.Need-times-at-requires
+times-at-requires c κs = search needs
 
 record-head-requires : tie.Need-record-head-requires
 record-head-requires c κs = search needs
@@ -28,6 +28,6 @@ head-of-spec =
     number-at-requires
     byte-at-requires
     rowcount-of-requires
-    times-of-requires
+    times-at-requires
     record-head-requires
     returns)

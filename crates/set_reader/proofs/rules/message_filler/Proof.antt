@@ -28,14 +28,14 @@ are-zero-requires c κs = search needs
 mul-are-zero-2 : tie.Need-mul-are-zero-2
 mul-are-zero-2 c = search needs
 
-cast-are-zero : tie.Need-cast-are-zero
-cast-are-zero c = search needs
-
 add-are-zero-2 : tie.Need-add-are-zero-2
 add-are-zero-2 c = search needs
 
 sub-are-zero : tie.Need-sub-are-zero
 sub-are-zero c = search needs
+
+cast-are-zero : tie.Need-cast-are-zero
+cast-are-zero c = search needs
 
 are-zero-requires-2 : tie.Need-are-zero-requires-2
 are-zero-requires-2 c κs = search needs
@@ -55,8 +55,8 @@ message-filler-spec =
     add-are-zero
     are-zero-requires
     mul-are-zero-2
-    cast-are-zero
     add-are-zero-2
     sub-are-zero
+    cast-are-zero
     are-zero-requires-2
     returns)

@@ -16,11 +16,11 @@ are-zero-requires c κs = search needs
 are-zero-requires-2 : tie.Need-are-zero-requires-2
 are-zero-requires-2 c κs = search needs
 
-cast-are-zero : tie.Need-cast-are-zero
-cast-are-zero c = search needs
-
 sub-are-zero : tie.Need-sub-are-zero
 sub-are-zero c = search needs
+
+cast-are-zero : tie.Need-cast-are-zero
+cast-are-zero c = search needs
 
 returns : tie.Need-returns
 returns c = plan-runs _ _ _ _ (rw (c .before .before .before .byte-at .ensures) at (c .before .before .filler-start .ensures)) (c .before .are-zero .ensures) (c .are-zero2 .ensures)
@@ -32,7 +32,7 @@ plan-filler-spec =
     byte-at-requires
     filler-start-requires
     are-zero-requires
-    cast-are-zero
     sub-are-zero
+    cast-are-zero
     are-zero-requires-2
     returns)

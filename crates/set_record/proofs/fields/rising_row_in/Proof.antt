@@ -19,8 +19,14 @@ abbrev μ-loop : tie.MeasureT-loop
 rows-used-requires : tie.Need-rows-used-requires Inv-loop μ-loop
 rows-used-requires c κs = search needs
 
+cast-least : tie.Need-cast-least Inv-loop μ-loop
+cast-least c = search needs
+
 least-requires : tie.Need-least-requires Inv-loop μ-loop
 least-requires c κs = search needs
+
+cast-j : tie.Need-cast-j Inv-loop μ-loop
+cast-j c = omega (arith, c .least .ensures, c .before .rows-used .ensures .1)
 
 loop-holds : tie.Need-loop-holds Inv-loop μ-loop
 loop-holds c =
@@ -60,7 +66,9 @@ rising-row-in-spec =
     Inv-loop
     μ-loop
     rows-used-requires
+    cast-least
     least-requires
+    cast-j
     loop-holds
     sub-j
     row-at-requires

@@ -3,11 +3,12 @@ use Prim.Native.Nat.{_*_, _-_, _≤_}
 use mathlib.Core.Path.{_≡_, refl}
 use native.Mathlib.Omega.{arith}
 use Rattle.set_plan.specs.Limits.{maxNodes}
+use Rattle.set_plan.specs.Record.{entryAt}
 use Rattle.base_bytes.specs.Puts.{Put}
-use Rattle.set_record.specs.Entries.{entryByteAt}
+use Rattle.set_record.specs.Entries.{entryBytes, entryByteAt}
 use Rattle.base_bytes.proofs.Puts.{put-start, put-next}
 use Rattle.set_record.specs.Offsets.{entriesAt}
-use Rattle.set_record.proofs.FourBytes.{entry-four}
+use Rattle.set_record.proofs.FourBytes.{four-at}
 use borrow.Author.Needs.{needs}
 use Rattle.set_record.proofs.packing.put_entries.Statement.{statement}
 use Rattle.set_record.proofs.packing.put_entries.Tie as tie
@@ -43,10 +44,10 @@ loop-less : tie.Need-loop-less Inv-loop μ-loop
 loop-less c = search needs
 
 loop-again : tie.Need-loop-again Inv-loop μ-loop
-loop-again c = (
-  search needs,
-  put-next entriesAt (4 * c .before .before .before .before .before .before .loop .k) 4 _ _ _ _ _ _ _ (c .before .before .before .before .before .before .loop .inv .1) (c .before .before .put-four .ensures) refl (omega arith) (λ i p. entry-four (c .before .before .before .before .before .before .before .before .args .t2) _ i p),
-)
+loop-again c =
+    let l = c .before .before .before .before .before .before .loop in
+    let nodes = c .before .before .before .before .before .before .before .before .args .t2 in
+    (search needs, put-next entriesAt (4 * l .k) 4 _ _ _ _ _ _ _ (l .inv .1) (c .before .before .put-four .ensures) refl (omega arith) (four-at (λ k. entryBytes (entryAt nodes k)) (l .k)))
 
 same-length : tie.Need-same-length Inv-loop μ-loop
 same-length c = search needs

@@ -1,21 +1,20 @@
 -- Each row so far is put. Assumes nothing.
-use Prim.Native.Nat.{_+_, _*_, _-_, _≤_}
-use mathlib.Core.Path.{_≡_, refl, ap, _∙_}
+use Prim.Native.Nat.{_*_, _-_, _≤_}
+use mathlib.Core.Path.{_≡_, refl}
 use native.Mathlib.Omega.{arith}
-use Rattle.base_bytes.specs.Bytes.{byte}
 use Rattle.base_bytes.specs.Puts.{Put}
 use Rattle.set_plan.specs.Limits.{maxRows}
 use Rattle.set_plan.specs.Record.{rowAt}
-use Rattle.set_record.specs.Entries.{rowBytes, rowByteFrom}
+use Rattle.set_record.specs.Entries.{rowBytes, rowByteAt}
 use Rattle.set_record.specs.Offsets.{rowsAt}
 use Rattle.base_bytes.proofs.Puts.{put-start, put-next}
-use Rattle.set_record.proofs.FourBytes.{row-four}
+use Rattle.set_record.proofs.FourBytes.{four-at}
 use borrow.Author.Needs.{needs}
 use Rattle.set_record.proofs.packing.put_rows.Statement.{statement}
 use Rattle.set_record.proofs.packing.put_rows.Tie as tie
 
 abbrev Inv-loop : tie.InvT-loop
-Inv-loop buffer₀ rows j₀ buffer j = (j ≤ maxRows) × Put rowsAt (4 * j) (rowByteFrom rows 0) buffer₀ buffer
+Inv-loop buffer₀ rows j₀ buffer j = (j ≤ maxRows) × Put rowsAt (4 * j) (rowByteAt rows) buffer₀ buffer
 
 abbrev μ-loop : tie.MeasureT-loop
 μ-loop buffer₀ rows j₀ buffer j = maxRows - j
@@ -48,11 +47,7 @@ loop-again : tie.Need-loop-again Inv-loop μ-loop
 loop-again c =
     let l = c .before .before .before .before .before .before .loop in
     let rows = c .before .before .before .before .before .before .before .before .args .t2 in
-    let z : l .j ≡ 0 + l .j = omega arith in (
-      search needs,
-      put-next rowsAt (4 * l .j) 4 _ _ _ _ _ _ _ (l .inv .1) (c .before .before .put-four .ensures) refl (omega arith)
-          (λ i p. ap (λ x. byte (rowBytes (rowAt rows x)) i) z ∙ row-four rows 0 (l .j) i p),
-    )
+    (search needs, put-next rowsAt (4 * l .j) 4 _ _ _ _ _ _ _ (l .inv .1) (c .before .before .put-four .ensures) refl (omega arith) (four-at (λ j. rowBytes (rowAt rows j)) (l .j)))
 
 same-length : tie.Need-same-length Inv-loop μ-loop
 same-length c = search needs

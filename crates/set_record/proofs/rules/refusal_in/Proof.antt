@@ -32,8 +32,8 @@ returns-2 c =
     let p = planIn (c .before .before .before .before .before .before .args .bytes .now) in
     by-4 p (ap profileRight (sym (c .before .before .before .before .profile-in .ensures)) ∙ sym (c .before .before .before .profile-right .ensures) ∙ not-false _ (c .before .before .if1 .left)) (sym (c .before .revision-in .ensures) ∙ c .if2 .taken)
 
-times-in-requires : tie.Need-times-in-requires
-times-in-requires c κs = search needs
+times-at-requires : tie.Need-times-at-requires
+times-at-requires c κs = search needs
 
 times-right-requires : tie.Need-times-right-requires
 times-right-requires c κs = search needs
@@ -41,7 +41,7 @@ times-right-requires c κs = search needs
 returns-3 : tie.Need-returns-3
 returns-3 c =
     let p = planIn (c .before .before .before .before .before .before .before .before .before .args .bytes .now) in
-    by-5 p (ap profileRight (sym (c .before .before .before .before .before .before .before .profile-in .ensures)) ∙ sym (c .before .before .before .before .before .before .profile-right .ensures) ∙ not-false _ (c .before .before .before .before .before .if1 .left)) (λ w. c .before .before .before .if2 .left (c .before .before .before .before .revision-in .ensures ∙ w)) (ap timesRight (sym (c .before .before .times-in .ensures)) ∙ sym (c .before .times-right .ensures) ∙ not-true _ (c .if3 .taken))
+    by-5 p (ap profileRight (sym (c .before .before .before .before .before .before .before .profile-in .ensures)) ∙ sym (c .before .before .before .before .before .before .profile-right .ensures) ∙ not-false _ (c .before .before .before .before .before .if1 .left)) (λ w. c .before .before .before .if2 .left (c .before .before .before .before .revision-in .ensures ∙ w)) (ap timesRight (sym (c .before .before .times-at .ensures)) ∙ sym (c .before .times-right .ensures) ∙ not-true _ (c .if3 .taken))
 
 node-count-in-requires : tie.Need-node-count-in-requires
 node-count-in-requires c κs = search needs
@@ -49,7 +49,7 @@ node-count-in-requires c κs = search needs
 returns-4 : tie.Need-returns-4
 returns-4 c =
     let p = planIn (c .before .before .before .before .before .before .before .before .before .before .before .args .bytes .now) in
-    by-6 p (ap profileRight (sym (c .before .before .before .before .before .before .before .before .before .profile-in .ensures)) ∙ sym (c .before .before .before .before .before .before .before .before .profile-right .ensures) ∙ not-false _ (c .before .before .before .before .before .before .before .if1 .left)) (λ w. c .before .before .before .before .before .if2 .left (c .before .before .before .before .before .before .revision-in .ensures ∙ w)) (ap timesRight (sym (c .before .before .before .before .times-in .ensures)) ∙ sym (c .before .before .before .times-right .ensures) ∙ not-false _ (c .before .before .if3 .left)) (nodes-few p (omega (arith, c .before .node-count-in .ensures)))
+    by-6 p (ap profileRight (sym (c .before .before .before .before .before .before .before .before .before .profile-in .ensures)) ∙ sym (c .before .before .before .before .before .before .before .before .profile-right .ensures) ∙ not-false _ (c .before .before .before .before .before .before .before .if1 .left)) (λ w. c .before .before .before .before .before .if2 .left (c .before .before .before .before .before .before .revision-in .ensures ∙ w)) (ap timesRight (sym (c .before .before .before .before .times-at .ensures)) ∙ sym (c .before .before .before .times-right .ensures) ∙ not-false _ (c .before .before .if3 .left)) (nodes-few p (omega (arith, c .before .node-count-in .ensures)))
 
 cast-if5 : tie.Need-cast-if5
 cast-if5 c = search needs
@@ -57,7 +57,7 @@ cast-if5 c = search needs
 returns-5 : tie.Need-returns-5
 returns-5 c =
     let p = planIn (c .before .before .before .before .before .before .before .before .before .before .before .before .args .bytes .now) in
-    by-6 p (ap profileRight (sym (c .before .before .before .before .before .before .before .before .before .before .profile-in .ensures)) ∙ sym (c .before .before .before .before .before .before .before .before .before .profile-right .ensures) ∙ not-false _ (c .before .before .before .before .before .before .before .before .if1 .left)) (λ w. c .before .before .before .before .before .before .if2 .left (c .before .before .before .before .before .before .before .revision-in .ensures ∙ w)) (ap timesRight (sym (c .before .before .before .before .before .times-in .ensures)) ∙ sym (c .before .before .before .before .times-right .ensures) ∙ not-false _ (c .before .before .before .if3 .left)) (nodes-many p (omega (arith, c .before .before .node-count-in .ensures)))
+    by-6 p (ap profileRight (sym (c .before .before .before .before .before .before .before .before .before .before .profile-in .ensures)) ∙ sym (c .before .before .before .before .before .before .before .before .before .profile-right .ensures) ∙ not-false _ (c .before .before .before .before .before .before .before .before .if1 .left)) (λ w. c .before .before .before .before .before .before .if2 .left (c .before .before .before .before .before .before .before .revision-in .ensures ∙ w)) (ap timesRight (sym (c .before .before .before .before .before .times-at .ensures)) ∙ sym (c .before .before .before .before .times-right .ensures) ∙ not-false _ (c .before .before .before .if3 .left)) (nodes-many p (omega (arith, c .before .before .node-count-in .ensures)))
 
 cast-each-node-right : tie.Need-cast-each-node-right
 cast-each-node-right c = search needs
@@ -68,7 +68,7 @@ each-node-right-requires c κs = search needs
 returns-6 : tie.Need-returns-6
 returns-6 c =
     let p = planIn (c .before .before .before .before .before .before .before .before .before .before .before .before .before .before .args .bytes .now) in
-    by-6 p (ap profileRight (sym (c .before .before .before .before .before .before .before .before .before .before .before .before .profile-in .ensures)) ∙ sym (c .before .before .before .before .before .before .before .before .before .before .before .profile-right .ensures) ∙ not-false _ (c .before .before .before .before .before .before .before .before .before .before .if1 .left)) (λ w. c .before .before .before .before .before .before .before .before .if2 .left (c .before .before .before .before .before .before .before .before .before .revision-in .ensures ∙ w)) (ap timesRight (sym (c .before .before .before .before .before .before .before .times-in .ensures)) ∙ sym (c .before .before .before .before .before .before .times-right .ensures) ∙ not-false _ (c .before .before .before .before .before .if3 .left)) (nodes-each p false (omega (arith, c .before .before .before .before .node-count-in .ensures)) (omega (arith, c .before .before .before .before .node-count-in .ensures)) (ap (allTo (nodeRight (p .nodes))) (sym (c .before .before .before .before .node-count-in .ensures)) ∙ sym (c .before .each-node-right .ensures) ∙ not-true _ (c .if6 .taken)))
+    by-6 p (ap profileRight (sym (c .before .before .before .before .before .before .before .before .before .before .before .before .profile-in .ensures)) ∙ sym (c .before .before .before .before .before .before .before .before .before .before .before .profile-right .ensures) ∙ not-false _ (c .before .before .before .before .before .before .before .before .before .before .if1 .left)) (λ w. c .before .before .before .before .before .before .before .before .if2 .left (c .before .before .before .before .before .before .before .before .before .revision-in .ensures ∙ w)) (ap timesRight (sym (c .before .before .before .before .before .before .before .times-at .ensures)) ∙ sym (c .before .before .before .before .before .before .times-right .ensures) ∙ not-false _ (c .before .before .before .before .before .if3 .left)) (nodes-each p false (omega (arith, c .before .before .before .before .node-count-in .ensures)) (omega (arith, c .before .before .before .before .node-count-in .ensures)) (ap (allTo (nodeRight (p .nodes))) (sym (c .before .before .before .before .node-count-in .ensures)) ∙ sym (c .before .each-node-right .ensures) ∙ not-true _ (c .if6 .taken)))
 
 row-count-in-requires : tie.Need-row-count-in-requires
 row-count-in-requires c κs = search needs
@@ -76,7 +76,7 @@ row-count-in-requires c κs = search needs
 returns-7 : tie.Need-returns-7
 returns-7 c =
     let p = planIn (c .before .before .before .before .before .before .before .before .before .before .before .before .before .before .before .before .args .bytes .now) in
-    by-7 p (ap profileRight (sym (c .before .before .before .before .before .before .before .before .before .before .before .before .before .before .profile-in .ensures)) ∙ sym (c .before .before .before .before .before .before .before .before .before .before .before .before .before .profile-right .ensures) ∙ not-false _ (c .before .before .before .before .before .before .before .before .before .before .before .before .if1 .left)) (λ w. c .before .before .before .before .before .before .before .before .before .before .if2 .left (c .before .before .before .before .before .before .before .before .before .before .before .revision-in .ensures ∙ w)) (ap timesRight (sym (c .before .before .before .before .before .before .before .before .before .times-in .ensures)) ∙ sym (c .before .before .before .before .before .before .before .before .times-right .ensures) ∙ not-false _ (c .before .before .before .before .before .before .before .if3 .left)) (nodes-each p true (omega (arith, c .before .before .before .before .before .before .node-count-in .ensures)) (omega (arith, c .before .before .before .before .before .before .node-count-in .ensures)) (ap (allTo (nodeRight (p .nodes))) (sym (c .before .before .before .before .before .before .node-count-in .ensures)) ∙ sym (c .before .before .before .each-node-right .ensures) ∙ not-false _ (c .before .before .if6 .left))) (rows-few p (omega (arith, c .before .row-count-in .ensures)))
+    by-7 p (ap profileRight (sym (c .before .before .before .before .before .before .before .before .before .before .before .before .before .before .profile-in .ensures)) ∙ sym (c .before .before .before .before .before .before .before .before .before .before .before .before .before .profile-right .ensures) ∙ not-false _ (c .before .before .before .before .before .before .before .before .before .before .before .before .if1 .left)) (λ w. c .before .before .before .before .before .before .before .before .before .before .if2 .left (c .before .before .before .before .before .before .before .before .before .before .before .revision-in .ensures ∙ w)) (ap timesRight (sym (c .before .before .before .before .before .before .before .before .before .times-at .ensures)) ∙ sym (c .before .before .before .before .before .before .before .before .times-right .ensures) ∙ not-false _ (c .before .before .before .before .before .before .before .if3 .left)) (nodes-each p true (omega (arith, c .before .before .before .before .before .before .node-count-in .ensures)) (omega (arith, c .before .before .before .before .before .before .node-count-in .ensures)) (ap (allTo (nodeRight (p .nodes))) (sym (c .before .before .before .before .before .before .node-count-in .ensures)) ∙ sym (c .before .before .before .each-node-right .ensures) ∙ not-false _ (c .before .before .if6 .left))) (rows-few p (omega (arith, c .before .row-count-in .ensures)))
 
 cast-if8 : tie.Need-cast-if8
 cast-if8 c = search needs
@@ -84,7 +84,7 @@ cast-if8 c = search needs
 returns-8 : tie.Need-returns-8
 returns-8 c =
     let p = planIn (c .before .before .before .before .before .before .before .before .before .before .before .before .before .before .before .before .before .args .bytes .now) in
-    by-7 p (ap profileRight (sym (c .before .before .before .before .before .before .before .before .before .before .before .before .before .before .before .profile-in .ensures)) ∙ sym (c .before .before .before .before .before .before .before .before .before .before .before .before .before .before .profile-right .ensures) ∙ not-false _ (c .before .before .before .before .before .before .before .before .before .before .before .before .before .if1 .left)) (λ w. c .before .before .before .before .before .before .before .before .before .before .before .if2 .left (c .before .before .before .before .before .before .before .before .before .before .before .before .revision-in .ensures ∙ w)) (ap timesRight (sym (c .before .before .before .before .before .before .before .before .before .before .times-in .ensures)) ∙ sym (c .before .before .before .before .before .before .before .before .before .times-right .ensures) ∙ not-false _ (c .before .before .before .before .before .before .before .before .if3 .left)) (nodes-each p true (omega (arith, c .before .before .before .before .before .before .before .node-count-in .ensures)) (omega (arith, c .before .before .before .before .before .before .before .node-count-in .ensures)) (ap (allTo (nodeRight (p .nodes))) (sym (c .before .before .before .before .before .before .before .node-count-in .ensures)) ∙ sym (c .before .before .before .before .each-node-right .ensures) ∙ not-false _ (c .before .before .before .if6 .left))) (rows-many p (omega (arith, c .before .before .row-count-in .ensures)))
+    by-7 p (ap profileRight (sym (c .before .before .before .before .before .before .before .before .before .before .before .before .before .before .before .profile-in .ensures)) ∙ sym (c .before .before .before .before .before .before .before .before .before .before .before .before .before .before .profile-right .ensures) ∙ not-false _ (c .before .before .before .before .before .before .before .before .before .before .before .before .before .if1 .left)) (λ w. c .before .before .before .before .before .before .before .before .before .before .before .if2 .left (c .before .before .before .before .before .before .before .before .before .before .before .before .revision-in .ensures ∙ w)) (ap timesRight (sym (c .before .before .before .before .before .before .before .before .before .before .times-at .ensures)) ∙ sym (c .before .before .before .before .before .before .before .before .before .times-right .ensures) ∙ not-false _ (c .before .before .before .before .before .before .before .before .if3 .left)) (nodes-each p true (omega (arith, c .before .before .before .before .before .before .before .node-count-in .ensures)) (omega (arith, c .before .before .before .before .before .before .before .node-count-in .ensures)) (ap (allTo (nodeRight (p .nodes))) (sym (c .before .before .before .before .before .before .before .node-count-in .ensures)) ∙ sym (c .before .before .before .before .each-node-right .ensures) ∙ not-false _ (c .before .before .before .if6 .left))) (rows-many p (omega (arith, c .before .before .row-count-in .ensures)))
 
 cast-rows-refusal : tie.Need-cast-rows-refusal
 cast-rows-refusal c = search needs
@@ -95,7 +95,7 @@ rows-refusal-requires c κs = search needs
 returns-9 : tie.Need-returns-9
 returns-9 c =
     let p = planIn (c .before .before .before .before .before .before .before .before .before .before .before .before .before .before .before .before .before .before .args .bytes .now) in
-    by-rows p (ap profileRight (sym (c .before .before .before .before .before .before .before .before .before .before .before .before .before .before .before .before .profile-in .ensures)) ∙ sym (c .before .before .before .before .before .before .before .before .before .before .before .before .before .before .before .profile-right .ensures) ∙ not-false _ (c .before .before .before .before .before .before .before .before .before .before .before .before .before .before .if1 .left)) (λ w. c .before .before .before .before .before .before .before .before .before .before .before .before .if2 .left (c .before .before .before .before .before .before .before .before .before .before .before .before .before .revision-in .ensures ∙ w)) (ap timesRight (sym (c .before .before .before .before .before .before .before .before .before .before .before .times-in .ensures)) ∙ sym (c .before .before .before .before .before .before .before .before .before .before .times-right .ensures) ∙ not-false _ (c .before .before .before .before .before .before .before .before .before .if3 .left)) (nodes-each p true (omega (arith, c .before .before .before .before .before .before .before .before .node-count-in .ensures)) (omega (arith, c .before .before .before .before .before .before .before .before .node-count-in .ensures)) (ap (allTo (nodeRight (p .nodes))) (sym (c .before .before .before .before .before .before .before .before .node-count-in .ensures)) ∙ sym (c .before .before .before .before .before .each-node-right .ensures) ∙ not-false _ (c .before .before .before .before .if6 .left))) (c .rows-refusal .result) (omega (arith, c .before .before .before .row-count-in .ensures)) (omega (arith, c .before .before .before .row-count-in .ensures)) (c .rows-refusal .ensures ∙ ap₂ (rowsRefusal (p .rows)) (c .before .before .before .before .before .before .before .before .node-count-in .ensures) (c .before .before .before .row-count-in .ensures))
+    by-rows p (ap profileRight (sym (c .before .before .before .before .before .before .before .before .before .before .before .before .before .before .before .before .profile-in .ensures)) ∙ sym (c .before .before .before .before .before .before .before .before .before .before .before .before .before .before .before .profile-right .ensures) ∙ not-false _ (c .before .before .before .before .before .before .before .before .before .before .before .before .before .before .if1 .left)) (λ w. c .before .before .before .before .before .before .before .before .before .before .before .before .if2 .left (c .before .before .before .before .before .before .before .before .before .before .before .before .before .revision-in .ensures ∙ w)) (ap timesRight (sym (c .before .before .before .before .before .before .before .before .before .before .before .times-at .ensures)) ∙ sym (c .before .before .before .before .before .before .before .before .before .before .times-right .ensures) ∙ not-false _ (c .before .before .before .before .before .before .before .before .before .if3 .left)) (nodes-each p true (omega (arith, c .before .before .before .before .before .before .before .before .node-count-in .ensures)) (omega (arith, c .before .before .before .before .before .before .before .before .node-count-in .ensures)) (ap (allTo (nodeRight (p .nodes))) (sym (c .before .before .before .before .before .before .before .before .node-count-in .ensures)) ∙ sym (c .before .before .before .before .before .each-node-right .ensures) ∙ not-false _ (c .before .before .before .before .if6 .left))) (c .rows-refusal .result) (omega (arith, c .before .before .before .row-count-in .ensures)) (omega (arith, c .before .before .before .row-count-in .ensures)) (c .rows-refusal .ensures ∙ ap₂ (rowsRefusal (p .rows)) (c .before .before .before .before .before .before .before .before .node-count-in .ensures) (c .before .before .before .row-count-in .ensures))
 
 pub refusal-in-spec : {M : Type 1} → statement M
 refusal-in-spec =
@@ -106,7 +106,7 @@ refusal-in-spec =
     returns
     revision-in-requires
     returns-2
-    times-in-requires
+    times-at-requires
     times-right-requires
     returns-3
     node-count-in-requires

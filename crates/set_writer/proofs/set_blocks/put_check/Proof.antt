@@ -1,4 +1,6 @@
 -- The two stores are those of the definition. Assumes nothing.
+use Prim.Native.Nat.{_+_, _*_}
+use mathlib.Core.Path.{_≡_}
 use lib.ListN.{length-set}
 use native.Mathlib.Omega.{arith}
 use Rattle.set_writer.specs.Write.{withCheck}
@@ -12,14 +14,14 @@ mul-block-check c = search needs
 block-check-requires : tie.Need-block-check-requires
 block-check-requires c κs = search needs
 
+mul-at : tie.Need-mul-at
+mul-at c = search needs
+
+add-at : tie.Need-add-at
+add-at c = search needs
+
 cast-buffer : tie.Need-cast-buffer
 cast-buffer c = search needs
-
-mul-buffer : tie.Need-mul-buffer
-mul-buffer c = search needs
-
-add-buffer : tie.Need-add-buffer
-add-buffer c = search needs
 
 slice-write-buffer : tie.Need-slice-write-buffer
 slice-write-buffer c = search needs
@@ -27,11 +29,8 @@ slice-write-buffer c = search needs
 cast-buffer-2 : tie.Need-cast-buffer-2
 cast-buffer-2 c = search needs
 
-mul-buffer-2 : tie.Need-mul-buffer-2
-mul-buffer-2 c = search needs
-
-add-buffer-2 : tie.Need-add-buffer-2
-add-buffer-2 c = search needs
+add-buffer : tie.Need-add-buffer
+add-buffer c = search needs
 
 slice-write-buffer-2 : tie.Need-slice-write-buffer-2
 slice-write-buffer-2 c = simp length-set (omega arith)
@@ -41,7 +40,10 @@ same-length c = search needs
 
 returns : tie.Need-returns
 unfolding withCheck
-returns c = rw (c .block-check .ensures)
+returns c =
+    let b = c .before .before .before .args .b in
+    let z : 512 * b + 510 + 1 ≡ 512 * b + 511 = omega arith in
+    rw (c .block-check .ensures, z)
 
 pub put-check-spec : {M : Type 1} → statement M
 put-check-spec =
@@ -49,13 +51,12 @@ put-check-spec =
     (tie.spec
     mul-block-check
     block-check-requires
+    mul-at
+    add-at
     cast-buffer
-    mul-buffer
-    add-buffer
     slice-write-buffer
     cast-buffer-2
-    mul-buffer-2
-    add-buffer-2
+    add-buffer
     slice-write-buffer-2
     same-length
     returns)

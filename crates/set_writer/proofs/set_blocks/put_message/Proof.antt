@@ -68,14 +68,14 @@ part-put-end c = search needs
 put-requires-2 : tie.Need-put-requires-2
 put-requires-2 c κs = search needs
 
+add-filler : tie.Need-add-filler
+add-filler c = search needs
+
 mul-put-zeros : tie.Need-mul-put-zeros
 mul-put-zeros c = search needs
 
 add-put-zeros : tie.Need-add-put-zeros
 add-put-zeros c = search needs
-
-add-put-zeros-2 : tie.Need-add-put-zeros-2
-add-put-zeros-2 c = search needs
 
 sub-put-zeros : tie.Need-sub-put-zeros
 sub-put-zeros c = search needs
@@ -116,9 +116,9 @@ put-message-spec =
     part-put-start
     part-put-end
     put-requires-2
+    add-filler
     mul-put-zeros
     add-put-zeros
-    add-put-zeros-2
     sub-put-zeros
     put-zeros-requires
     same-length

@@ -38,8 +38,8 @@ part-put-end c = search needs
 put-requires-2 : tie.Need-put-requires-2
 put-requires-2 c κs = search needs
 
-add-put-zeros : tie.Need-add-put-zeros
-add-put-zeros c = search needs
+add-filler : tie.Need-add-filler
+add-filler c = search needs
 
 sub-put-zeros : tie.Need-sub-put-zeros
 sub-put-zeros c = search needs
@@ -68,7 +68,7 @@ put-plan-spec =
     part-put-start
     part-put-end
     put-requires-2
-    add-put-zeros
+    add-filler
     sub-put-zeros
     put-zeros-requires
     same-length

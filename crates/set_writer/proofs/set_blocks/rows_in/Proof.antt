@@ -6,24 +6,25 @@ use borrow.Author.Needs.{needs}
 use Rattle.set_writer.proofs.set_blocks.rows_in.Statement.{statement}
 use Rattle.set_writer.proofs.set_blocks.rows_in.Tie as tie
 
+cast-least : tie.Need-cast-least
+cast-least c = search needs
+
+least-requires : tie.Need-least-requires
+least-requires c κs = search needs
+
+cast-first : tie.Need-cast-first
+cast-first c = search needs
+
 sub-result : tie.Need-sub-result
 sub-result c = search needs
 
 returns : tie.Need-returns
 unfolding rowsIn
-returns c = (rw (eq-eqb (c .before .before .args .b) 1 (omega arith)) (omega arith), search needs, search needs)
+returns c = (rw (eq-eqb (c .before .before .args .b) 1 (omega arith)) (c .before .least .ensures), search needs, search needs)
 
 returns-2 : tie.Need-returns-2
 unfolding rowsIn
-returns-2 c = (rw (eq-eqb (c .before .before .args .b) 1 (omega arith)) (omega arith), search needs, search needs)
-
-returns-3 : tie.Need-returns-3
-unfolding rowsIn
-returns-3 c = (rw (ne-eqb (c .before .before .args .b) 1 (λ e. omega arith)) (omega arith), search needs, search needs)
-
-returns-4 : tie.Need-returns-4
-unfolding rowsIn
-returns-4 c = (rw (ne-eqb (c .before .before .args .b) 1 (λ e. omega arith)), search needs, search needs)
+returns-2 c = (rw (ne-eqb (c .before .before .args .b) 1 (λ e. omega arith)) (omega arith), search needs, search needs)
 
 pub rows-in-spec : {M : Type 1} → statement M
-rows-in-spec = tie.close (tie.spec sub-result returns returns-2 returns-3 returns-4)
+rows-in-spec = tie.close (tie.spec cast-least least-requires cast-first sub-result returns returns-2)

@@ -1,26 +1,44 @@
 -- By computation. Assumes nothing.
 use Rattle.set_record.specs.Entries.{timesFrom}
 use borrow.Author.Needs.{needs}
-use Rattle.set_reader.proofs.layout.times_of.Statement.{statement}
-use Rattle.set_reader.proofs.layout.times_of.Tie as tie
+use Rattle.set_record.proofs.fields.times_at.Statement.{statement}
+use Rattle.set_record.proofs.fields.times_at.Tie as tie
 
 number-at-requires : tie.Need-number-at-requires
 number-at-requires c κs = search needs
 
+add-number-at : tie.Need-add-number-at
+add-number-at c = search needs
+
 number-at-requires-2 : tie.Need-number-at-requires-2
 number-at-requires-2 c κs = search needs
+
+add-number-at-2 : tie.Need-add-number-at-2
+add-number-at-2 c = search needs
 
 number-at-requires-3 : tie.Need-number-at-requires-3
 number-at-requires-3 c κs = search needs
 
+add-number-at-3 : tie.Need-add-number-at-3
+add-number-at-3 c = search needs
+
 number-at-requires-4 : tie.Need-number-at-requires-4
 number-at-requires-4 c κs = search needs
+
+add-number-at-4 : tie.Need-add-number-at-4
+add-number-at-4 c = search needs
 
 number-at-requires-5 : tie.Need-number-at-requires-5
 number-at-requires-5 c κs = search needs
 
+add-number-at-5 : tie.Need-add-number-at-5
+add-number-at-5 c = search needs
+
 number-at-requires-6 : tie.Need-number-at-requires-6
 number-at-requires-6 c κs = search needs
+
+add-number-at-6 : tie.Need-add-number-at-6
+add-number-at-6 c = search needs
 
 number-at-requires-7 : tie.Need-number-at-requires-7
 number-at-requires-7 c κs = search needs
@@ -29,15 +47,21 @@ returns : tie.Need-returns
 unfolding timesFrom
 returns c = cc
 
-pub times-of-spec : {M : Type 1} → statement M
-times-of-spec =
+pub times-at-spec : {M : Type 1} → statement M
+times-at-spec =
     tie.close
     (tie.spec
     number-at-requires
+    add-number-at
     number-at-requires-2
+    add-number-at-2
     number-at-requires-3
+    add-number-at-3
     number-at-requires-4
+    add-number-at-4
     number-at-requires-5
+    add-number-at-5
     number-at-requires-6
+    add-number-at-6
     number-at-requires-7
     returns)
