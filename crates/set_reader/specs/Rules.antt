@@ -50,13 +50,15 @@ revisionsSame s = eachBlock s (revisionSame s)
 unfoldable pub countsRight : List ℕ → Bool
 countsRight s = inRange 1 blockRows (byte s 516) && (oneMessageBlock s || eqb (byte s 516) blockRows && inRange 1 blockRows (byte s 1028))
 
--- 9: "Unnamed bytes are zero": the offsets that have a name, in the plan block of so many nodes ..
-abbrev pub planNamed : ℕ → ℕ → Bool
-planNamed nodes o = ltb o 20 || leb 32 o && ltb o (32 + 4 * nodes) || leb 510 o
+-- 9: "Unnamed bytes are zero": the offsets of a block that have a name, those of a head, of so many entries or rows from an offset on, of the check
+abbrev pub blockNamed : ℕ → ℕ → ℕ → ℕ → Bool
+blockNamed head from count o = ltb o head || leb from o && ltb o (from + 4 * count) || leb 510 o
 
--- .. and in a message block of so many rows
+abbrev pub planNamed : ℕ → ℕ → Bool
+planNamed nodes o = blockNamed 20 32 nodes o
+
 abbrev pub messageNamed : ℕ → ℕ → Bool
-messageNamed rows o = ltb o 5 || leb 8 o && ltb o (8 + 4 * rows) || leb 510 o
+messageNamed rows o = blockNamed 5 8 rows o
 
 unfoldable pub named : List ℕ → ℕ → Bool
 named s o = ifElse (ltb o blockLength) (planNamed (byte s 4) o) (messageNamed (byte s (blockLength * (o / blockLength) + 4)) (o % blockLength))

@@ -13,7 +13,7 @@ use borrow.Author.Tests.{lt-ltb, le-ltb, le-leb, eq-eqb, ne-eqb, leb-true, leb-f
 use Rattle.base_lists.proofs.AllAny.{all-intro}
 use Rattle.base_bytes.specs.Bytes.{byte, number, twoBytes}
 use Rattle.set_plan.specs.declared.Plan.{Plan}
-use Rattle.set_reader.specs.Rules.{eachBlock, lengthRight, checkRight, checksRight, blockType, typeRight, typesRight, revisionSame, revisionsSame, countsRight, planNamed, messageNamed, named, fillerAt, fillerRight}
+use Rattle.set_reader.specs.Rules.{eachBlock, lengthRight, checkRight, checksRight, blockType, typeRight, typesRight, revisionSame, revisionsSame, countsRight, blockNamed, planNamed, messageNamed, named, fillerAt, fillerRight}
 use Rattle.set_writer.specs.Write.{planHead, rowsIn, messageHead, setLength, writeSet}
 use Rattle.set_writer.proofs.SetLengths.{blockCount, length-short, length-long, length-blocks}
 use Rattle.set_writer.proofs.SetBytes.{set-long, set-check, head-byte, plan-filler, message-head, message-filler}
@@ -90,49 +90,43 @@ module _ (p : Plan) (few-nodes : p .nodecount ≤ 16) (some : 1 ≤ p .rowcount)
           ++ twoBytes (q .times .quiet) ++ twoBytes (q .times .recovery) ++ twoBytes (q .times .space) ++ twoBytes (q .times .start)
 
   -- a byte that has no name is 0
-  zero-byte : (s : List ℕ) (o : ℕ) → byte s o ≡ 0 → (b : Bool) → (b || eqb (byte s o) 0) ≡ true
-  zero-byte s o e b = rw (eq-eqb (byte s o) 0 e) (or-true b)
-
-  plan-named : (o : ℕ) → o < 512 → (planNamed (p .nodecount) o || eqb (byte (writeSet p) o) 0) ≡ true
-  plan-named o h = go (decLt o 20) (decLt o 32) (decLt o (32 + 4 * p .nodecount)) (decLt o 510)
+  named-kept : (g : ℕ → ℕ) (head from count : ℕ) → ((o : ℕ) → head ≤ o → o < from → g o ≡ 0) → ((o : ℕ) → from + 4 * count ≤ o → o < 510 → g o ≡ 0)
+      → (o : ℕ) → (blockNamed head from count o || eqb (g o) 0) ≡ true
+  named-kept g head from count gap filler o = go (decLt o head) (decLt o from) (decLt o (from + 4 * count)) (decLt o 510)
     where
-      go : Dec (o < 20) → Dec (o < 32) → Dec (o < 32 + 4 * p .nodecount) → Dec (o < 510) → (planNamed (p .nodecount) o || eqb (byte (writeSet p) o) 0) ≡ true
-      go (yes a) b c d = rw (lt-ltb o 20 a)
-      go (no a) (yes b) c d =
-          let e : o ≡ 20 + (o - 20) = omega arith in
-          zero-byte (writeSet p) o (ap (byte (writeSet p)) e ∙ head-filler (o - 20) (omega arith)) (planNamed (p .nodecount) o)
-      go (no a) (no b) (yes c) d = rw (le-ltb o 20 (omega arith), le-leb 32 o (omega arith), lt-ltb o (32 + 4 * p .nodecount) c)
-      go (no a) (no b) (no c) (yes d) = zero-byte (writeSet p) o (plan-filler p o (omega arith) d) (planNamed (p .nodecount) o)
+      zero-byte : g o ≡ 0 → (blockNamed head from count o || eqb (g o) 0) ≡ true
+      zero-byte e = rw (eq-eqb (g o) 0 e) (or-true (blockNamed head from count o))
+
+      go : Dec (o < head) → Dec (o < from) → Dec (o < from + 4 * count) → Dec (o < 510) → (blockNamed head from count o || eqb (g o) 0) ≡ true
+      go (yes a) b c d = rw (lt-ltb o head a)
+      go (no a) (yes b) c d = zero-byte (gap o (omega arith) b)
+      go (no a) (no b) (yes c) d = rw (le-ltb o head (omega arith), le-leb from o (omega arith), lt-ltb o (from + 4 * count) c)
+      go (no a) (no b) (no c) (yes d) = zero-byte (filler o (omega arith) d)
       go (no a) (no b) (no c) (no d) = rw (le-leb 510 o (omega arith), or-true)
 
-  message-named : (b o : ℕ) → 1 ≤ b → b < blockCount (p .rowcount) → o < 512 → (messageNamed (rowsIn (p .rowcount) b) o || eqb (byte (writeSet p) (512 * b + o)) 0) ≡ true
+  plan-named : (o : ℕ) → (planNamed (p .nodecount) o || eqb (byte (writeSet p) o) 0) ≡ true
+  plan-named = named-kept (byte (writeSet p)) 20 32 (p .nodecount) (λ o a b. let e : o ≡ 20 + (o - 20) = omega arith in ap (byte (writeSet p)) e ∙ head-filler (o - 20) (omega arith)) (plan-filler p)
+
+  message-named : (b o : ℕ) → 1 ≤ b → b < blockCount (p .rowcount) → (messageNamed (rowsIn (p .rowcount) b) o || eqb (byte (writeSet p) (512 * b + o)) 0) ≡ true
   unfolding messageHead
-  message-named b o x y h = go (decLt o 5) (decLt o 8) (decLt o (8 + 4 * rowsIn (p .rowcount) b)) (decLt o 510)
-    where
-      go : Dec (o < 5) → Dec (o < 8) → Dec (o < 8 + 4 * rowsIn (p .rowcount) b) → Dec (o < 510) → (messageNamed (rowsIn (p .rowcount) b) o || eqb (byte (writeSet p) (512 * b + o)) 0) ≡ true
-      go (yes a) c d e = rw (lt-ltb o 5 a)
-      go (no a) (yes c) d e =
-          let z : o ≡ 5 + (o - 5) = omega arith in
-          zero-byte (writeSet p) (512 * b + o)
-          (message-head p b x y o c ∙ ap (λ i. getD (messageHead (p .revision) (rowsIn (p .rowcount) b)) i 0) z
-          ∙ getD-append-add (0x4d ∷ 1 ∷ twoBytes (p .revision) ++ rowsIn (p .rowcount) b ∷ []) (replicate 3 0) (o - 5) 0 ∙ getD-replicate 3 (o - 5) 0 0 (omega arith)) (messageNamed (rowsIn (p .rowcount) b) o)
-      go (no a) (no c) (yes d) e = rw (le-ltb o 5 (omega arith), le-leb 8 o (omega arith), lt-ltb o (8 + 4 * rowsIn (p .rowcount) b) d)
-      go (no a) (no c) (no d) (yes e) = zero-byte (writeSet p) (512 * b + o) (message-filler p b x y o (omega arith) e) (messageNamed (rowsIn (p .rowcount) b) o)
-      go (no a) (no c) (no d) (no e) = rw (le-leb 510 o (omega arith), or-true)
+  message-named b o x y = named-kept (λ o. byte (writeSet p) (512 * b + o)) 5 8 (rowsIn (p .rowcount) b) (λ o a c.
+      let z : o ≡ 5 + (o - 5) = omega arith in
+      message-head p b x y o c ∙ ap (λ i. getD (messageHead (p .revision) (rowsIn (p .rowcount) b)) i 0) z
+      ∙ getD-append-add (0x4d ∷ 1 ∷ twoBytes (p .revision) ++ rowsIn (p .rowcount) b ∷ []) (replicate 3 0) (o - 5) 0 ∙ getD-replicate 3 (o - 5) 0 0 (omega arith)) (message-filler p b x y) o
 
   filler-at : (o : ℕ) → o < setLength (p .rowcount) → fillerAt (writeSet p) o ≡ true
   unfolding fillerAt named messageHead
   filler-at o h = go (decLt o 512)
     where
       go : Dec (o < 512) → fillerAt (writeSet p) o ≡ true
-      go (yes a) = rw (lt-ltb o 512 a, nodecount-back p few-nodes few-rows) (plan-named o a)
+      go (yes a) = rw (lt-ltb o 512 a, nodecount-back p few-nodes few-rows) (plan-named o)
       go (no a) =
           let b = o / 512 in
           let x : 1 ≤ b = omega arith in
           let y : b < blockCount (p .rowcount) = omega (arith, length-blocks (p .rowcount)) in
           let z : o ≡ 512 * b + o % 512 = omega arith in
           rw (le-ltb o 512 (omega arith), message-head p b x y 4 (omega arith))
-          (ap (λ k. messageNamed (rowsIn (p .rowcount) b) (o % 512) || eqb (byte (writeSet p) k) 0) z ∙ message-named b (o % 512) x y (omega arith))
+          (ap (λ k. messageNamed (rowsIn (p .rowcount) b) (o % 512) || eqb (byte (writeSet p) k) 0) z ∙ message-named b (o % 512) x y)
 
   pub filler-kept : fillerRight (writeSet p) ≡ true
   unfolding fillerRight

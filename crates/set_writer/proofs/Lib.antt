@@ -1,3 +1,4 @@
+pub mod Blocks
 pub mod BlockSpans
 pub mod Checks
 pub mod Kept

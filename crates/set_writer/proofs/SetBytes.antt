@@ -14,6 +14,7 @@ use Rattle.base_bytes.specs.Check.{blockCheck}
 use Rattle.set_plan.specs.declared.Plan.{Plan}
 use Rattle.set_record.specs.Entries.{entryByteAt, rowByteAt}
 use Rattle.set_writer.specs.Write.{planHead, planByte, rowsIn, messageHead, messageByte, dataByte, setLength, withChecks, writeSet}
+use Rattle.set_writer.proofs.Blocks.{in-head, in-fours, in-filler}
 use Rattle.set_writer.proofs.SetLengths.{blockCount, length-least, length-blocks}
 use Rattle.set_writer.proofs.Checks.{firstChecks, length-checks, checks-append, checks-data, checks-stored, check-kept-all}
 
@@ -54,23 +55,21 @@ module _ (p : Plan) where
       let w = checks-stored l (blockCount (p .rowcount)) b h (omega (arith, length-tab (setLength (p .rowcount)) (dataByte p), length-blocks (p .rowcount))) in
       rw (checks-are, w .1) (omega arith)
 
+  plan-byte : (o : ℕ) → o < 510 → getD (writeSet p) o 0 ≡ planByte p o
+  unfolding dataByte
+  plan-byte o h = set-data o (omega (arith, length-least (p .rowcount))) (omega arith) ∙ rw (lt-ltb o 512 (omega arith))
+
   pub head-byte : (o : ℕ) → o < 32 → getD (writeSet p) o 0 ≡ getD (planHead p) o 0
-  unfolding dataByte planByte
-  head-byte o h = set-data o (omega (arith, length-least (p .rowcount))) (omega arith) ∙ rw (lt-ltb o 512 (omega arith), lt-ltb o 32 h)
+  unfolding planByte
+  head-byte o h = plan-byte o (omega arith) ∙ in-head (planHead p) 32 (entryByteAt (p .nodes)) (p .nodecount) o h
 
   pub node-byte : (i : ℕ) → i < 4 * p .nodecount → p .nodecount ≤ 16 → getD (writeSet p) (32 + i) 0 ≡ entryByteAt (p .nodes) i
-  unfolding dataByte planByte
-  node-byte i h m =
-      let o = 32 + i in
-      let a : o - 32 ≡ i = omega arith in
-      set-data o (omega (arith, length-least (p .rowcount))) (omega arith)
-      ∙ rw (lt-ltb o 512 (omega arith), le-ltb o 32 (omega arith), lt-ltb o (32 + 4 * p .nodecount) (omega arith), a)
+  unfolding planByte
+  node-byte i h m = plan-byte (32 + i) (omega arith) ∙ in-fours (planHead p) 32 (entryByteAt (p .nodes)) (p .nodecount) i h
 
   pub plan-filler : (o : ℕ) → 32 + 4 * p .nodecount ≤ o → o < 510 → getD (writeSet p) o 0 ≡ 0
-  unfolding dataByte planByte
-  plan-filler o h m =
-      set-data o (omega (arith, length-least (p .rowcount))) (omega arith)
-      ∙ rw (lt-ltb o 512 (omega arith), le-ltb o 32 (omega arith), le-ltb o (32 + 4 * p .nodecount) (omega arith))
+  unfolding planByte
+  plan-filler o h m = plan-byte o m ∙ in-filler (planHead p) 32 (entryByteAt (p .nodes)) (p .nodecount) o h
 
   -- a message block
   module _ (b : ℕ) (first : 1 ≤ b) (last : b < blockCount (p .rowcount)) where
@@ -83,15 +82,12 @@ module _ (p : Plan) where
 
     pub message-head : (o : ℕ) → o < 8 → getD (writeSet p) (512 * b + o) 0 ≡ getD (messageHead (p .revision) (rowsIn (p .rowcount) b)) o 0
     unfolding messageByte
-    message-head o h = message-byte o (omega arith) ∙ rw (lt-ltb o 8 h)
+    message-head o h = message-byte o (omega arith) ∙ in-head (messageHead (p .revision) (rowsIn (p .rowcount) b)) 8 (λ i. rowByteAt (p .rows) (400 * (b - 1) + i)) (rowsIn (p .rowcount) b) o h
 
     pub message-row : (i : ℕ) → i < 4 * rowsIn (p .rowcount) b → rowsIn (p .rowcount) b ≤ 100 → getD (writeSet p) (512 * b + (8 + i)) 0 ≡ rowByteAt (p .rows) (400 * (b - 1) + i)
     unfolding messageByte
-    message-row i h m =
-        let o = 8 + i in
-        let a : o - 8 ≡ i = omega arith in
-        message-byte o (omega arith) ∙ rw (le-ltb o 8 (omega arith), lt-ltb o (8 + 4 * rowsIn (p .rowcount) b) (omega arith), a)
+    message-row i h m = message-byte (8 + i) (omega arith) ∙ in-fours (messageHead (p .revision) (rowsIn (p .rowcount) b)) 8 (λ i. rowByteAt (p .rows) (400 * (b - 1) + i)) (rowsIn (p .rowcount) b) i h
 
     pub message-filler : (o : ℕ) → 8 + 4 * rowsIn (p .rowcount) b ≤ o → o < 510 → getD (writeSet p) (512 * b + o) 0 ≡ 0
     unfolding messageByte
-    message-filler o h m = message-byte o m ∙ rw (le-ltb o 8 (omega arith), le-ltb o (8 + 4 * rowsIn (p .rowcount) b) h)
+    message-filler o h m = message-byte o m ∙ in-filler (messageHead (p .revision) (rowsIn (p .rowcount) b)) 8 (λ i. rowByteAt (p .rows) (400 * (b - 1) + i)) (rowsIn (p .rowcount) b) o h

@@ -17,8 +17,9 @@ use Rattle.set_plan.specs.Record.{unusedZero}
 use Rattle.set_plan.specs.Rules.{planRefusal}
 use Rattle.set_plan.proofs.Accepted.{accepted, nodes-few, rows-few}
 use Rattle.set_plan.proofs.Unused.{entry-same, row-same, unused-refusal}
-use Rattle.set_record.specs.Entries.{entryBytes, rowBytes}
-use Rattle.set_writer.specs.Write.{planHead, planByte, rowsIn, messageByte, dataByte, setLength, withChecks, writeSet, writeRefusal, written}
+use Rattle.set_record.specs.Entries.{entryBytes, entryByteAt, rowBytes, rowByteAt}
+use Rattle.set_writer.specs.Write.{planHead, planByte, rowsIn, messageHead, messageByte, dataByte, setLength, withChecks, writeSet, writeRefusal, written}
+use Rattle.set_writer.proofs.Blocks.{block-same}
 use Rattle.set_writer.proofs.SetLengths.{length-least}
 use Rattle.set_writer.proofs.Refusals.{room}
 
@@ -26,14 +27,8 @@ module _ (p : Plan) where
   module _ (few-nodes : p .nodecount ≤ 16) (few-rows : p .rowcount ≤ 127) where
     plan-same : (o : ℕ) → planByte (unusedZero p) o ≡ planByte p o
     unfolding planByte planHead unusedZero
-    plan-same o = go (decLt o 32) (decLt o (32 + 4 * p .nodecount))
-      where
-        go : Dec (o < 32) → Dec (o < 32 + 4 * p .nodecount) → planByte (unusedZero p) o ≡ planByte p o
-        go (yes a) b = rw (lt-ltb o 32 a)
-        go (no a) (yes b) =
-            rw (le-ltb o 32 (omega arith), lt-ltb o (32 + 4 * p .nodecount) b)
-            (ap (λ (e : NodeEntry). getD (entryBytes e) ((o - 32) % 4) 0) (entry-same p ((o - 32) / 4) (omega arith) (omega arith)))
-        go (no a) (no b) = rw (le-ltb o 32 (omega arith), le-ltb o (32 + 4 * p .nodecount) (omega arith))
+    plan-same o = block-same (planHead p) 32 (entryByteAt (unusedZero p .nodes)) (entryByteAt (p .nodes)) (p .nodecount)
+        (λ i h. ap (λ (e : NodeEntry). getD (entryBytes e) (i % 4) 0) (entry-same p (i / 4) (omega arith) (omega arith))) o
 
     -- a row of message block b is one of the rows in use
     used : (b i : ℕ) → 1 ≤ b → b < 3 → i < 4 * rowsIn (p .rowcount) b → (400 * (b - 1) + i) / 4 < p .rowcount
@@ -53,16 +48,9 @@ module _ (p : Plan) where
 
     message-same : (b o : ℕ) → 1 ≤ b → b < 3 → messageByte (unusedZero p) b o ≡ messageByte p b o
     unfolding messageByte unusedZero
-    message-same b o x y = go (decLt o 8) (decLt o (8 + 4 * rowsIn (p .rowcount) b))
-      where
-        go : Dec (o < 8) → Dec (o < 8 + 4 * rowsIn (p .rowcount) b) → messageByte (unusedZero p) b o ≡ messageByte p b o
-        go (yes a) c = rw (lt-ltb o 8 a)
-        go (no a) (yes c) =
-            let i = 400 * (b - 1) + (o - 8) in
-            let h : i / 4 < p .rowcount = used b (o - 8) x y (omega arith) in
-            rw (le-ltb o 8 (omega arith), lt-ltb o (8 + 4 * rowsIn (p .rowcount) b) c)
-            (ap (λ (r : Row). getD (rowBytes r) (i % 4) 0) (row-same p (i / 4) (omega arith) h))
-        go (no a) (no c) = rw (le-ltb o 8 (omega arith), le-ltb o (8 + 4 * rowsIn (p .rowcount) b) (omega arith))
+    message-same b o x y = block-same (messageHead (p .revision) (rowsIn (p .rowcount) b)) 8
+        (λ i. rowByteAt (unusedZero p .rows) (400 * (b - 1) + i)) (λ i. rowByteAt (p .rows) (400 * (b - 1) + i)) (rowsIn (p .rowcount) b)
+        (λ i h. ap (λ (r : Row). getD (rowBytes r) ((400 * (b - 1) + i) % 4) 0) (row-same p ((400 * (b - 1) + i) / 4) (omega (arith, used b i x y h)) (used b i x y h))) o
 
     data-same : (o : ℕ) → o < 1536 → dataByte (unusedZero p) o ≡ dataByte p o
     unfolding dataByte

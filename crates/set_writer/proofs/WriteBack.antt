@@ -6,22 +6,23 @@ use mathlib.Core.Bool.{Bool, true, false, _&&_, _||_}
 use mathlib.Core.Logic.{_⊎_, inl, inr, ⊎-elim}
 use lib.ListN.{length, getD}
 use lib.Seq.{ext-getD}
-use lib.Dec.{leb, ltb, eqb}
+use lib.Dec.{leb, eqb}
 use native.Mathlib.Omega.{arith}
 use native.Mathlib.Decide.{decLt}
 use borrow.Author.Tests.{lt-ltb, le-ltb, le-leb, lt-leb, ne-eqb, leb-true, eqb-true, eqb-false}
-use Rattle.base_lists.specs.Bounded.{ifElse, tab}
+use Rattle.base_lists.specs.Bounded.{tab}
 use Rattle.base_lists.proofs.AllAny.{all-at, and-l, and-r, halves}
 use Rattle.base_lists.proofs.Tables.{getD-tab}
 use Rattle.base_bytes.specs.Bytes.{byte, number, highByte, lowByte}
 use Rattle.base_bytes.proofs.Halves.{high-at, low-at}
 use Rattle.set_plan.specs.Rules.{inRange}
 use Rattle.set_plan.proofs.Accepted.{Accepted, accepted, nodes-few, rows-few}
-use Rattle.set_record.specs.Entries.{timesFrom, rowByteAt}
+use Rattle.set_record.specs.Entries.{timesFrom, entryByteAt, rowByteAt}
 use Rattle.set_reader.specs.Layout.{oneMessageBlock, rowcountOf, planOf}
 use Rattle.set_reader.specs.Rules.{eachBlock, lengthRight, checkRight, checksRight, blockType, typeRight, typesRight, revisionSame, revisionsSame, countsRight, messageNamed, named, fillerAt, fillerRight}
 use Rattle.set_reader.proofs.Accepted.{AcceptedSet}
 use Rattle.set_writer.specs.Write.{planHead, planByte, rowsIn, messageHead, messageByte, dataByte, setLength, writeSet}
+use Rattle.set_writer.proofs.Blocks.{block-is}
 use Rattle.set_writer.proofs.SetLengths.{blockCount, length-blocks}
 use Rattle.set_writer.proofs.Checks.{check-ext}
 use Rattle.set_reader.proofs.SetRecord.{entry-used, row-first, row-second}
@@ -161,14 +162,10 @@ module _ (s : List ℕ) (r : AcceptedSet s) where
 
     plan-data : (o : ℕ) → o < 510 → planByte (planOf s) o ≡ byte s o
     unfolding planByte planOf
-    plan-data o q = go (decLt o 32) (decLt o (32 + 4 * byte s 4))
-      where
-        go : Dec (o < 32) → Dec (o < 32 + 4 * byte s 4) → planByte (planOf s) o ≡ byte s o
-        go (yes a) b = rw (lt-ltb o 32 a) (ap (λ l. getD l o 0) head-is ∙ getD-tab 32 (byte s) o 0 a)
-        go (no a) (yes b) =
-            let z : 32 + (o - 32) ≡ o = omega arith in
-            rw (le-ltb o 32 (omega arith), lt-ltb o (32 + 4 * byte s 4) b) (entry-used s (byte s 4) (o - 32) (omega (arith, nodes-bound)) ∙ ap (byte s) z)
-        go (no a) (no b) = rw (le-ltb o 32 (omega arith), le-ltb o (32 + 4 * byte s 4) (omega arith)) (sym (zero-at o (omega arith) (no-plan-name o (omega arith) (omega arith))))
+    plan-data = block-is (planHead (planOf s)) 32 (entryByteAt (planOf s .nodes)) (byte s 4) (byte s) 510
+        (λ o h. ap (λ l. getD l o 0) head-is ∙ getD-tab 32 (byte s) o 0 h)
+        (λ i h. entry-used s (byte s 4) i (omega (arith, nodes-bound)))
+        (λ o a b. sym (zero-at o (omega arith) (no-plan-name o a b)))
 
     -- a message block
     module _ (b : ℕ) (low : 1 ≤ b) (high : b < blockCount (planOf s .rowcount)) where
@@ -257,17 +254,9 @@ module _ (s : List ℕ) (r : AcceptedSet s) where
 
       message-data : (o : ℕ) → o < 510 → messageByte (planOf s) b o ≡ byte s (512 * b + o)
       unfolding messageByte
-      message-data o q = rw (rows-is .0) (go (decLt o 8) (decLt o (8 + 4 * byte s (512 * b + 4))))
-        where
-          go : Dec (o < 8) → Dec (o < 8 + 4 * byte s (512 * b + 4))
-              → ifElse (ltb o 8) (getD (messageHead (planOf s .revision) (byte s (512 * b + 4))) o 0) (ifElse (ltb o (8 + 4 * byte s (512 * b + 4))) (rowByteAt (planOf s .rows) (400 * (b - 1) + (o - 8))) 0) ≡ byte s (512 * b + o)
-          go (yes a) c = rw (lt-ltb o 8 a) (ap (λ l. getD l o 0) message-head-is ∙ getD-tab 8 (λ i. byte s (512 * b + i)) o 0 a)
-          go (no a) (yes c) =
-              let z : 512 * b + (8 + (o - 8)) ≡ 512 * b + o = omega arith in
-              rw (le-ltb o 8 (omega arith), lt-ltb o (8 + 4 * byte s (512 * b + 4)) c) (row-is (o - 8) (omega arith) ∙ ap (byte s) z)
-          go (no a) (no c) =
-              rw (le-ltb o 8 (omega arith), le-ltb o (8 + 4 * byte s (512 * b + 4)) (omega arith))
-              (sym (blank o (omega arith) (rw (le-ltb o 5 (omega arith), le-leb 8 o (omega arith), le-ltb o (8 + 4 * byte s (512 * b + 4)) (omega arith), lt-leb 510 o q))))
+      message-data = rw (rows-is .0) (block-is (messageHead (planOf s .revision) (byte s (512 * b + 4))) 8 (λ i. rowByteAt (planOf s .rows) (400 * (b - 1) + i)) (byte s (512 * b + 4)) (λ o. byte s (512 * b + o)) 510
+          (λ o h. ap (λ l. getD l o 0) message-head-is ∙ getD-tab 8 (λ i. byte s (512 * b + i)) o 0 h) row-is
+          (λ o a q. sym (blank o (omega arith) (rw (le-ltb o 5 (omega arith), le-leb 8 o (omega arith), le-ltb o (8 + 4 * byte s (512 * b + 4)) a, lt-leb 510 o q)))))
 
     set-length-is : setLength (planOf s .rowcount) ≡ length s
     set-length-is = length-blocks (planOf s .rowcount) ∙ sym blocks-long

@@ -18,12 +18,13 @@ unfoldable pub planHead : Plan → List ℕ
 planHead p =
     0x50 ∷ 1 ∷ twoBytes (p .revision) ++ p .nodecount ∷ p .profile ∷ timesBytes (p .times) ++ replicate 12 0
 
--- byte o of the plan block, its check left 0: "From 32, N entries of 4 bytes"
+-- byte o of a block, its check left 0: a head, from an offset on so many entries or rows of 4 bytes, zeros
+abbrev pub blockByte : List ℕ → ℕ → (ℕ → ℕ) → ℕ → ℕ → ℕ
+blockByte head from four count o = ifElse (ltb o from) (getD head o 0) (ifElse (ltb o (from + 4 * count)) (four (o - from)) 0)
+
+-- of the plan block: "From 32, N entries of 4 bytes"
 unfoldable pub planByte : Plan → ℕ → ℕ
-planByte p o =
-    ifElse (ltb o 32) (getD (planHead p) o 0)
-    (ifElse (ltb o (32 + 4 * p .nodecount)) (entryByteAt (p .nodes) (o - 32))
-    0)
+planByte p o = blockByte (planHead p) 32 (entryByteAt (p .nodes)) (p .nodecount) o
 
 -- rows in message block b, 1 or 2: "1 to 100, exactly 100 in the first of two"
 unfoldable pub rowsIn : ℕ → ℕ → ℕ
@@ -33,12 +34,10 @@ rowsIn rowcount b = ifElse (eqb b 1) (min rowcount blockRows) (rowcount - blockR
 unfoldable pub messageHead : ℕ → ℕ → List ℕ
 messageHead revision rows = 0x4d ∷ 1 ∷ twoBytes revision ++ rows ∷ 0 ∷ 0 ∷ 0 ∷ []
 
--- byte o of message block b, its check left 0: "from 8, rows of 4 bytes"
+-- of message block b: "from 8, rows of 4 bytes"
 unfoldable pub messageByte : Plan → ℕ → ℕ → ℕ
 messageByte p b o =
-    ifElse (ltb o 8) (getD (messageHead (p .revision) (rowsIn (p .rowcount) b)) o 0)
-    (ifElse (ltb o (8 + 4 * rowsIn (p .rowcount) b)) (rowByteAt (p .rows) (4 * blockRows * (b - 1) + (o - 8)))
-    0)
+    blockByte (messageHead (p .revision) (rowsIn (p .rowcount) b)) 8 (λ i. rowByteAt (p .rows) (4 * blockRows * (b - 1) + i)) (rowsIn (p .rowcount) b) o
 
 -- byte o of the set, checks left 0: "512-byte blocks: one plan block, then one or two message blocks"
 unfoldable pub dataByte : Plan → ℕ → ℕ

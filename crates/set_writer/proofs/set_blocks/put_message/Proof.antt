@@ -1,6 +1,6 @@
 -- Run by run. Assumes nothing.
 use mathlib.Core.Path.{_∙_}
-use Rattle.set_writer.proofs.BlockSpans.{message-put-from}
+use Rattle.set_writer.proofs.BlockSpans.{message-put}
 use borrow.Author.Needs.{needs}
 use Rattle.set_writer.proofs.set_blocks.put_message.Statement.{statement}
 use Rattle.set_writer.proofs.set_blocks.put_message.Tie as tie
@@ -89,7 +89,7 @@ same-length c = search needs
 returns : tie.Need-returns
 returns c =
     let e = c .before .before .before .before .before .before .before .before .before .before .before .before .before .before .before .before .before .row-count .ensures in
-    message-put-from (c .before .before .before .before .before .before .before .before .before .before .before .before .before .before .before .before .before .before .before .before .args .plan .now) (search needs) _ _ _ _ _ _ _ (search needs) (rw e at (c .before .before .before .before .before .before .before .before .before .before .before .before .before .before .before .before .rows-in .ensures .0)) (c .before .before .before .before .before .before .before .before .before .before .before .before .before .before .before .before .rows-in .ensures .1) (c .before .before .before .before .before .before .before .before .before .before .before .before .before .before .before .before .rows-in .ensures .2) (search needs) (c .before .before .before .before .before .before .before .before .before .before .before .before .before .before .message-head .ensures ∙ rw (c .before .before .before .before .before .before .before .before .before .before .before .before .before .before .before .revision-of .ensures, e)) (c .before .before .before .before .before .before .before .before .before .before .before .put .ensures) (c .before .before .before .before .before .before .put2 .ensures) (c .before .before .put-zeros .ensures)
+    message-put (c .before .before .before .before .before .before .before .before .before .before .before .before .before .before .before .before .before .before .before .before .args .plan .now) (search needs) _ _ _ _ _ _ _ (search needs) (rw e at (c .before .before .before .before .before .before .before .before .before .before .before .before .before .before .before .before .rows-in .ensures .0)) (c .before .before .before .before .before .before .before .before .before .before .before .before .before .before .before .before .rows-in .ensures .1) (c .before .before .before .before .before .before .before .before .before .before .before .before .before .before .before .before .rows-in .ensures .2) (search needs) (c .before .before .before .before .before .before .before .before .before .before .before .before .before .before .message-head .ensures ∙ rw (c .before .before .before .before .before .before .before .before .before .before .before .before .before .before .before .revision-of .ensures, e)) (c .before .before .before .before .before .before .before .before .before .before .before .put .ensures) (c .before .before .before .before .before .before .put2 .ensures) (c .before .before .put-zeros .ensures)
 
 pub put-message-spec : {M : Type 1} → statement M
 put-message-spec =

@@ -1,6 +1,6 @@
 -- Run by run. Assumes nothing.
 use native.Mathlib.Omega.{arith}
-use Rattle.set_writer.proofs.BlockSpans.{plan-put-from}
+use Rattle.set_writer.proofs.BlockSpans.{plan-put}
 use borrow.Author.Needs.{needs}
 use Rattle.set_writer.proofs.set_blocks.put_plan.Statement.{statement}
 use Rattle.set_writer.proofs.set_blocks.put_plan.Tie as tie
@@ -51,7 +51,7 @@ same-length : tie.Need-same-length
 same-length c = search needs
 
 returns : tie.Need-returns
-returns c = plan-put-from (c .before .before .before .before .before .before .before .before .before .before .before .before .before .before .before .before .before .before .args .plan .now) (search needs) _ _ _ _ _ _ (c .before .before .before .before .before .before .before .before .before .before .before .before .before .before .before .node-count .ensures) (omega (arith, c .before .before .before .before .before .before .before .before .before .before .before .before .before .before .before .node-count .ensures)) (search needs) (c .before .before .before .before .before .before .before .before .before .before .before .before .before .before .plan-head .ensures) (c .before .before .before .before .before .before .before .before .before .before .before .put .ensures) (c .before .before .before .before .before .before .put2 .ensures) (c .before .before .put-zeros .ensures)
+returns c = plan-put (c .before .before .before .before .before .before .before .before .before .before .before .before .before .before .before .before .before .before .args .plan .now) (search needs) _ _ _ _ _ _ (c .before .before .before .before .before .before .before .before .before .before .before .before .before .before .before .node-count .ensures) (omega (arith, c .before .before .before .before .before .before .before .before .before .before .before .before .before .before .before .node-count .ensures)) (search needs) (c .before .before .before .before .before .before .before .before .before .before .before .before .before .before .plan-head .ensures) (c .before .before .before .before .before .before .before .before .before .before .before .put .ensures) (c .before .before .before .before .before .before .put2 .ensures) (c .before .before .put-zeros .ensures)
 
 pub put-plan-spec : {M : Type 1} → statement M
 put-plan-spec =
