@@ -1,5 +1,7 @@
 // What the programs share: the set's file, named by their argument, what they read and print, and what they say on standard error. What a
 // file holds and whether a write succeeds is outside any promise, so of reading only the count is promised.
+ghost use Prim.Native.Nat.{ℕ};
+ghost use mathlib.Core.List.{List};
 ghost use mathlib.Core.Path.{_≡_};
 ghost use mathlib.Core.Bool.{false};
 ghost use lib.ListN.{replicate};
@@ -11,6 +13,7 @@ use base_text::below;
 use libc::STDERR_FILENO;
 use libc::STDOUT_FILENO;
 use program_arguments::Ask;
+use set_plan::Plan;
 use set_reader::ReadAnswer;
 
 // How many bytes were read, and whether none failed to be.
@@ -162,4 +165,14 @@ pub fn read_plan(program: &[u8], set: &[u8]) -> ReadAnswer
         print_refusal(program, answer.refusal);
     }
     answer
+}
+
+// The plan of the set in a file, the all-zero record where it is refused: that of some bytes, and no promise can say of which.
+pub fn plan_in(program: &[u8], name: &[u8]) -> Plan
+    ensures { λ r. ⌜ ((bytes : List ℕ) × (r ≡ readSet bytes .plan)) ⌝ }
+{
+    let mut set = set_room();
+    let read = read_file(program, name, &mut set);
+    let answer = set_reader::read(&set[..read.count]);
+    answer.plan
 }
