@@ -1,5 +1,5 @@
 #!/usr/bin/env python3
-"""Writes the cases of both machines and what must be printed of each: crates/test_machines/stdin and stdout.
+"""Writes the cases of both machines and what must be printed of each: crates/test_machines/stdin and stdout, and the sets of their plans, data.
 
 Run at the repository's root. Each case gives a state, an event and, by hand from the documents of docs/SOURCES.md, what the step
 changes. Nothing here calls the product or works a rule out: what is not named as changed stays as given.
@@ -8,8 +8,27 @@ Plan 0: two nodes, node 0 polled, node 1 event-triggered; W 10, D 2, S 3, E 4, R
 sequence count; row 17 of node 1, length 3, without one; row 18 of the master. Plan 1: the same with all times 1. Plan 2: the same
 with revision 0. Plan 3: node 0 and row 16 alone. Plan 4: sixteen nodes; row 17 and the places of node 1 are node 15's. Plan 5: plan 0
 with profile 1, panels that never sleep. Plan 6: plan 0 with profile 2. Plan 7: plan 0 with variable rows, 16 of kind 3, with a
-sequence count, and 17 of kind 2, without one. Plan 8: plan 0 with row 17 of kind 4."""
+sequence count, and 17 of kind 2, without one. Plan 8: plan 0 with row 17 of kind 4. No set can hold plans 2, 6 and 8: the program makes them of
+plan 0's."""
+import os
+import sys
 
+sys.dont_write_bytecode = True
+sys.path.insert(0, "tests/sets")
+from layout import plan_set
+
+MASTER = 255
+ROW_16, ROW_17, ROW_18 = (16, 0, 2, 1), (17, 1, 3, 0), (18, MASTER, 0, 0)
+PLAN = dict(revision=7, times=[10, 2, 3, 4, 5, 6, 2], nodes=[(1, 1, 1), (2, 1, 0)], rows=[ROW_16, ROW_17, ROW_18])
+SETS = {
+    0: PLAN,
+    1: dict(PLAN, times=[1] * 7),
+    3: dict(PLAN, nodes=[(1, 1, 1)], rows=[ROW_16]),
+    4: dict(PLAN, nodes=[(1, 1, 1)] + [(i + 1, 1, 0) for i in range(1, 16)],
+            rows=[ROW_16, (17, 15, 3, 0), ROW_18] + [(i + 18, i, 0, 0) for i in range(1, 15)]),
+    5: dict(PLAN, profile=1),
+    7: dict(PLAN, rows=[(16, 0, 2, 3), (17, 1, 3, 2), ROW_18]),
+}
 STATES = ["Normal", "Standby", "Sleep"]
 PHASES = ["Open", "Sending", "Withdrawn", "Closing"]
 LAST = 4294967295
@@ -537,6 +556,10 @@ node(AWAKE, request(128), "request of ReqId 128", refusal=15)
 node(AWAKE, ask(128), "ask to send ReqId 128", refusal=15)
 node(ASLEEP, request(255), "15 before 16", refusal=15)
 
+os.makedirs("crates/test_machines/data", exist_ok=True)
+for number, plan in SETS.items():
+    with open("crates/test_machines/data/%d.set" % number, "wb") as f:
+        f.write(plan_set(**plan))
 for name, lines in [("stdin", stdin), ("stdout", stdout)]:
     with open("crates/test_machines/" + name, "w") as f:
         f.write("\n".join(lines) + "\n")

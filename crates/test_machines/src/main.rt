@@ -1,16 +1,7 @@
 // A test of both machines. Each line of its input is a case: numbers that give a plan, a state and an event, and what the case
 // shows. It prints the state, the command and the refusal that the step gives. tests/machines/make.py writes the cases.
 use libc::STDIN_FILENO;
-use machine_master::Hold;
-use machine_master::Master;
-use machine_master::Phase;
-use machine_node::Delay;
-use machine_node::Node;
-use machine_state::State;
-use set_plan::NodeEntry;
 use set_plan::Plan;
-use set_plan::Row;
-use set_plan::Times;
 
 mod masters;
 mod nodes;
@@ -78,136 +69,33 @@ fn wide(x: u64) -> u32 {
     (x % 4294967296) as u32
 }
 
-fn state_of(x: u64) -> State {
-    match x {
-        0 => State::Normal,
-        1 => State::Standby,
-        _ => State::Sleep,
-    }
+// The plan of the set in a file that a digit names.
+fn set_of(number: u64) -> Plan {
+    let name = [48 + (number % 10) as u8, b'.', b's', b'e', b't'];
+    program_files::plan_in(&name)
 }
 
-// Fourteen nodes between the first and the last, each with a row behind those of plan 0; row 17 is the last's.
-fn with_sixteen(mut plan: Plan) -> Plan {
-    let mut nodes = plan.nodes;
+fn with_kind_4(mut plan: Plan) -> Plan {
     let mut rows = plan.rows;
-    rows[1] = Row {
-        reqid: 17,
-        publisher: 15,
-        length: 3,
-        kind: 0,
-    };
-    let mut i: u8 = 1;
-    while i < 15 {
-        nodes[(i as usize) + 1] = NodeEntry {
-            address: i + 2,
-            class: 1,
-            method: 0,
-            reserved: 0,
-        };
-        rows[(i as usize) + 2] = Row {
-            reqid: i + 18,
-            publisher: i,
-            length: 0,
-            kind: 0,
-        };
-        i += 1;
-    }
-    plan.nodecount = 16;
-    plan.rowcount = 17;
-    plan.nodes = nodes;
+    rows[1].kind = 4;
     plan.rows = rows;
     plan
 }
 
-fn profile_of(x: u64) -> u8 {
-    match x {
-        5 => 1,
-        6 => 2,
-        _ => 0,
+// No set can hold plans 2, 6 and 8: each is plan 0 with one field wrong.
+fn plan_of(number: u64) -> Plan {
+    match number {
+        2 => Plan {
+            revision: 0,
+            ..set_of(0)
+        },
+        6 => Plan {
+            profile: 2,
+            ..set_of(0)
+        },
+        8 => with_kind_4(set_of(0)),
+        _ => set_of(number),
     }
-}
-
-fn first_kind(x: u64) -> u8 {
-    match x {
-        7 => 3,
-        _ => 1,
-    }
-}
-
-fn second_kind(x: u64) -> u8 {
-    match x {
-        7 => 2,
-        8 => 4,
-        _ => 0,
-    }
-}
-
-// Two nodes, the first polled; a row of each and one of the master. Plan 1 has the shortest times, 2 a wrong revision, 3 one
-// node with its row, 4 sixteen nodes, 5 the profile of panels that never sleep, 6 a wrong profile, 7 rows of variable length, 8 a
-// row of a wrong kind.
-fn plan_of(x: u64) -> Plan {
-    let mut plan = Plan::zero();
-    let mut nodes = plan.nodes;
-    nodes[0] = NodeEntry {
-        address: 1,
-        class: 1,
-        method: 1,
-        reserved: 0,
-    };
-    nodes[1] = NodeEntry {
-        address: 2,
-        class: 1,
-        method: 0,
-        reserved: 0,
-    };
-    let mut rows = plan.rows;
-    rows[0] = Row {
-        reqid: 16,
-        publisher: 0,
-        length: 2,
-        kind: first_kind(x),
-    };
-    rows[1] = Row {
-        reqid: 17,
-        publisher: 1,
-        length: 3,
-        kind: second_kind(x),
-    };
-    rows[2] = Row {
-        reqid: 18,
-        publisher: Plan::MASTER,
-        length: 0,
-        kind: 0,
-    };
-    let times = if x == 1 {
-        Times {
-            window: 1,
-            stop: 1,
-            sleep: 1,
-            quiet: 1,
-            recovery: 1,
-            space: 1,
-            start: 1,
-        }
-    } else {
-        Times {
-            window: 10,
-            stop: 2,
-            sleep: 3,
-            quiet: 4,
-            recovery: 5,
-            space: 6,
-            start: 2,
-        }
-    };
-    plan.revision = if x == 2 { 0 } else { 7 };
-    plan.profile = profile_of(x);
-    plan.nodecount = if x == 3 { 1 } else { 2 };
-    plan.rowcount = if x == 3 { 1 } else { 3 };
-    plan.times = times;
-    plan.nodes = nodes;
-    plan.rows = rows;
-    if x == 4 { with_sixteen(plan) } else { plan }
 }
 
 fn run_case(text: &[u8], start: usize) -> usize {

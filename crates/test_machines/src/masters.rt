@@ -7,7 +7,6 @@ use crate::output::print_flag;
 use crate::output::print_number;
 use crate::output::print_state;
 use crate::plan_of;
-use crate::state_of;
 use crate::wide;
 use machine_master::Answer;
 use machine_master::Command;
@@ -15,6 +14,7 @@ use machine_master::Event;
 use machine_master::Hold;
 use machine_master::Master;
 use machine_master::Phase;
+use machine_state::state_of;
 
 fn phase_of(x: u64) -> Phase {
     match x {
@@ -50,7 +50,7 @@ fn master_of(v: [u64; 22]) -> Master {
     counts[16] = narrow(v[9]);
     counts[17] = narrow(v[10]);
     Master {
-        state: state_of(v[2]),
+        state: state_of(narrow(v[2])),
         phase: phase_of(v[3]),
         permission: v[4] == 1,
         holds,

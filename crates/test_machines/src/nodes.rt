@@ -7,12 +7,12 @@ use crate::output::print_flag;
 use crate::output::print_number;
 use crate::output::print_state;
 use crate::plan_of;
-use crate::state_of;
 use crate::wide;
 use machine_node::Command;
 use machine_node::Delay;
 use machine_node::Event;
 use machine_node::Node;
+use machine_state::state_of;
 
 fn delay_of(x: u64) -> Delay {
     if x == 0 {
@@ -28,7 +28,7 @@ fn node_of(v: [u64; 22]) -> Node {
     counts[16] = narrow(v[11]);
     counts[17] = narrow(v[12]);
     Node {
-        state: state_of(v[2]),
+        state: state_of(narrow(v[2])),
         permission: v[3] == 1,
         error: v[4] == 1,
         wake: v[5] == 1,
