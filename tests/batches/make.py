@@ -1,5 +1,5 @@
 #!/usr/bin/env python3
-"""Writes the lists of crates/test_batch and what must be printed of each: stdin and stdout.
+"""Writes the lists of crates/test_batch and what must be printed of each: stdin and stdout, and the sets of their plans, data.
 
 Run at the repository's root. A list is a byte for the plan (0 right, 1 with revision 0, 2 of panels that never sleep, 3 with variable rows: 16
 of kind 3, with a sequence count, and 17 of kind 2, without one), a byte for the start (0 the plan's power-on, 1 what the list before it left, 2 a
@@ -8,10 +8,23 @@ docs/SOURCES.md; nothing here calls the product or works a rule out.
 
 The plan: two nodes; row 16 of node 0, length 2, with a sequence count; row 17 of node 1, length 3, without one; row 18 of the master; W 3, D 2,
 C 2. A line has what the call answers; the master's state, phase, `permits`, both nodes' permissions with age, the last count of row 16, the delay
-and the tick number; then the replies: refusal, node, command, lost. There are seven places, 9 in each field before the call."""
+and the tick number; then the replies: refusal, node, command, lost. There are seven places, 9 in each field before the call. No set can hold the
+plan with revision 0: the program makes it of the right one."""
+import os
+import sys
+
+sys.dont_write_bytecode = True
+sys.path.insert(0, "tests/sets")
+from layout import plan_set
 
 RIGHT, REFUSED, NEVER_SLEEPS, VARIABLE = 0, 1, 2, 3
 POWER_ON, GO_ON, OUT_OF_RANGE = 0, 1, 2
+PLAN = dict(revision=7, times=[3, 2, 3, 4, 5, 6, 2], nodes=[(1, 1, 1), (2, 1, 0)], rows=[(16, 0, 2, 1), (17, 1, 3, 0), (18, 255, 0, 0)])
+SETS = {
+    RIGHT: PLAN,
+    NEVER_SLEEPS: dict(PLAN, profile=1),
+    VARIABLE: dict(PLAN, rows=[(16, 0, 2, 3), (17, 1, 3, 2), (18, 255, 0, 0)]),
+}
 stdin, stdout = [], []
 
 
@@ -104,6 +117,10 @@ case(GO_ON, [answer(17, 2), SLEEP, answer(16, 1, count=3), SENT, answer(17, 0), 
 case(GO_ON, [answer(16, 0, count=0, result=1), TICK, answer(16, 0, count=0, wake=1), answer(16, 1, count=4), answer(18, 0), answer(17, 1, count=3)],
      "Normal Open permits - 0 held 0 0 0 5", ["13 0 0 0", DONE, DONE, "15 0 0 0", "12 0 0 0", DONE], plan=VARIABLE)
 
+os.makedirs("crates/test_batch/data", exist_ok=True)
+for number, plan in SETS.items():
+    with open("crates/test_batch/data/%d.set" % number, "wb") as file:
+        file.write(plan_set(**plan))
 with open("crates/test_batch/stdin", "wb") as file:
     file.write(b"".join(stdin))
 with open("crates/test_batch/stdout", "w") as file:

@@ -12,10 +12,7 @@ use machine_master::Hold;
 use machine_master::Master;
 use machine_master::Phase;
 use machine_state::State;
-use set_plan::NodeEntry;
 use set_plan::Plan;
-use set_plan::Row;
-use set_plan::Times;
 
 // A list's bytes: the plan and the start, then six records of 10.
 const LIST_LENGTH: usize = 62;
@@ -114,58 +111,21 @@ fn print_ran(ran: Ran) {
     print(b"\n");
 }
 
-// Two nodes; a row of each, the first with a sequence count, and one of the master.
-fn plan_of(revision: u16, profile: u8, variable: bool) -> Plan {
-    let mut plan = Plan::zero();
-    let mut nodes = plan.nodes;
-    nodes[0] = NodeEntry {
-        address: 1,
-        class: 1,
-        method: 1,
-        reserved: 0,
-    };
-    nodes[1] = NodeEntry {
-        address: 2,
-        class: 1,
-        method: 0,
-        reserved: 0,
-    };
-    let mut rows = plan.rows;
-    rows[0] = Row {
-        reqid: 16,
-        publisher: 0,
-        length: 2,
-        kind: if variable { 3 } else { 1 },
-    };
-    rows[1] = Row {
-        reqid: 17,
-        publisher: 1,
-        length: 3,
-        kind: if variable { 2 } else { 0 },
-    };
-    rows[2] = Row {
-        reqid: 18,
-        publisher: Plan::MASTER,
-        length: 0,
-        kind: 0,
-    };
-    let times = Times {
-        window: 3,
-        stop: 2,
-        sleep: 3,
-        quiet: 4,
-        recovery: 5,
-        space: 6,
-        start: 2,
-    };
-    plan.revision = revision;
-    plan.profile = profile;
-    plan.nodecount = 2;
-    plan.rowcount = 3;
-    plan.times = times;
-    plan.nodes = nodes;
-    plan.rows = rows;
-    plan
+// The plan of the set in a file that a digit names.
+fn set_of(number: u8) -> Plan {
+    let name = [48 + number % 10, b'.', b's', b'e', b't'];
+    program_files::plan_in(&name)
+}
+
+// No set can hold plan 1: it is plan 0 with revision 0.
+fn plan_of(number: u8) -> Plan {
+    if number == 1 {
+        return Plan {
+            revision: 0,
+            ..set_of(0)
+        };
+    }
+    set_of(number)
 }
 
 // The event record at an offset; numbers of two bytes are big-endian.
@@ -216,9 +176,7 @@ fn run_list(list: &[u8], left: Master) -> Master {
         command: 9,
         lost: 9,
     };
-    let revision = if byte_at(list, 0) == 1 { 0 } else { 7 };
-    let profile = if byte_at(list, 0) == 2 { 1 } else { 0 };
-    let plan = plan_of(revision, profile, byte_at(list, 0) == 3);
+    let plan = plan_of(byte_at(list, 0));
     let start = start_of(byte_at(list, 1), plan.sleeps(), left);
     let ran = run_six(plan, start, events_of(list), [untouched; 7]);
     print_ran(ran);
