@@ -7,13 +7,17 @@ worked out by hand from the documents of docs/SOURCES.md; nothing here calls the
 The plan: two nodes, each with a row of length 2, ReqId 1 with a sequence count and 2 without one; W 3, D 2, S 2, E 1, R 2, P 3, C 1. Of each
 list is printed what it comes to under the plan; in a line more under the same plan of panels that never sleep (W-206), where no machine leaves
 Normal; and in a third under the same plan with variable rows (W-207), where it comes to the same: a whole answer has a length that its row
-accepts, whatever bytes 11 and 12 say."""
+accepts, whatever bytes 11 and 12 say. No set can hold the refused plan of the last line: the program makes it of the first."""
 
 import sys
 
 sys.dont_write_bytecode = True
+sys.path.insert(1, "tests/sets")
+from layout import plan_set
 from records import DAMAGED, FAILED, LOST, NONE, SENT, SLEEP_ASK, TICK, move
 
+PLAN = dict(revision=1, times=[3, 2, 2, 1, 2, 3, 1], nodes=[(1, 1, 0), (2, 1, 0)], rows=[(1, 0, 2, 1), (2, 1, 2, 0)])
+SETS = {"sleeps": PLAN, "never_sleeps": dict(PLAN, profile=1), "variable": dict(PLAN, rows=[(1, 0, 2, 3), (2, 1, 2, 2)])}
 args, printed = [], []
 
 
@@ -76,6 +80,9 @@ case("flag_2", [WAKE, move(4, value=2)], 15, ASLEEP)
 case("fate_3", [WAKE, move(0, fate=3)], 15, ASLEEP)
 printed.append("none.moves 4 " + ASLEEP)
 
+for name, plan in SETS.items():
+    with open("crates/test_moves/data/%s.set" % name, "wb") as file:
+        file.write(plan_set(**plan))
 with open("crates/test_moves/args", "w") as file:
     file.write("".join(name + "\n" for name in args))
 with open("crates/test_moves/stdout", "w") as file:

@@ -6,10 +6,8 @@ use libc::STDOUT_FILENO;
 use machine_master::Phase;
 use machine_node::Node;
 use machine_state::State;
-use set_plan::NodeEntry;
+use program_files::plan_in;
 use set_plan::Plan;
-use set_plan::Row;
-use set_plan::Times;
 
 fn print(text: &[u8]) {
     io::write_all(STDOUT_FILENO, text);
@@ -55,72 +53,34 @@ fn print_ran(ran: Ran) {
     print(b"\n");
 }
 
-// Two nodes, each with a row; settling time 5, S + 2 = 4.
-fn plan_of(revision: u16, profile: u8, variable: bool) -> Plan {
-    let mut plan = Plan::zero();
-    let mut nodes = plan.nodes;
-    nodes[0] = NodeEntry {
-        address: 1,
-        class: 1,
-        method: 0,
-        reserved: 0,
-    };
-    nodes[1] = NodeEntry {
-        address: 2,
-        class: 1,
-        method: 0,
-        reserved: 0,
-    };
-    let mut rows = plan.rows;
-    rows[0] = Row {
-        reqid: 1,
-        publisher: 0,
-        length: 2,
-        kind: if variable { 3 } else { 1 },
-    };
-    rows[1] = Row {
-        reqid: 2,
-        publisher: 1,
-        length: 2,
-        kind: if variable { 2 } else { 0 },
-    };
-    let times = Times {
-        window: 3,
-        stop: 2,
-        sleep: 2,
-        quiet: 1,
-        recovery: 2,
-        space: 3,
-        start: 1,
-    };
-    plan.revision = revision;
-    plan.profile = profile;
-    plan.nodecount = 2;
-    plan.rowcount = 2;
-    plan.times = times;
-    plan.nodes = nodes;
-    plan.rows = rows;
-    plan
-}
-
-fn run_file(argument: usize, revision: u16, profile: u8, variable: bool) {
+fn run_file(argument: usize, plan: Plan) {
     let mut name = io::buffer();
     let name_length = os::arg(argument, &mut name);
     print(&name[..name_length]);
     let mut moves = io::large_buffer();
     let read = program_files::read_file(b"test_moves", &name[..name_length], &mut moves);
     let count = read.count;
-    print_ran(bus_moves::run(plan_of(revision, profile, variable), &moves[..count]));
+    print_ran(bus_moves::run(plan, &moves[..count]));
 }
 
 fn main() {
+    let sleeps = plan_in(b"sleeps.set");
+    let never_sleeps = plan_in(b"never_sleeps.set");
+    let variable = plan_in(b"variable.set");
     let count = os::arg_count();
     let mut i: usize = 1;
     while i < count {
-        run_file(i, 1, 0, false);
-        run_file(i, 1, 1, false);
-        run_file(i, 1, 0, true);
+        run_file(i, sleeps);
+        run_file(i, never_sleeps);
+        run_file(i, variable);
         i += 1;
     }
-    run_file(1, 0, 0, false);
+    // No set can hold a refused plan.
+    run_file(
+        1,
+        Plan {
+            revision: 0,
+            ..sleeps
+        },
+    );
 }

@@ -5,10 +5,28 @@ use Rattle.test_moves.proofs.main.Statement.{statement}
 use Rattle.test_moves.proofs.main.Tie as tie
 
 abbrev Inv-loop : tie.InvT-loop
-Inv-loop count i₀ i = Unit {0}
+Inv-loop sleeps never-sleeps variable count i₀ i = Unit {0}
 
 abbrev μ-loop : tie.MeasureT-loop
-μ-loop count i₀ i = count - i
+μ-loop sleeps never-sleeps variable count i₀ i = count - i
+
+slice-aggregate-plan-in : tie.Need-slice-aggregate-plan-in Inv-loop μ-loop
+slice-aggregate-plan-in c = search needs
+
+plan-in-requires : tie.Need-plan-in-requires Inv-loop μ-loop
+plan-in-requires c κs = search needs
+
+slice-aggregate-plan-in-2 : tie.Need-slice-aggregate-plan-in-2 Inv-loop μ-loop
+slice-aggregate-plan-in-2 c = search needs
+
+plan-in-requires-2 : tie.Need-plan-in-requires-2 Inv-loop μ-loop
+plan-in-requires-2 c κs = search needs
+
+slice-aggregate-plan-in-3 : tie.Need-slice-aggregate-plan-in-3 Inv-loop μ-loop
+slice-aggregate-plan-in-3 c = search needs
+
+plan-in-requires-3 : tie.Need-plan-in-requires-3 Inv-loop μ-loop
+plan-in-requires-3 c κs = search needs
 
 arg-count-requires : tie.Need-arg-count-requires Inv-loop μ-loop
 arg-count-requires c κs = search needs
@@ -46,6 +64,12 @@ main-spec =
     (tie.spec
     Inv-loop
     μ-loop
+    slice-aggregate-plan-in
+    plan-in-requires
+    slice-aggregate-plan-in-2
+    plan-in-requires-2
+    slice-aggregate-plan-in-3
+    plan-in-requires-3
     arg-count-requires
     loop-holds
     run-file-requires
