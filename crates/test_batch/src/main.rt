@@ -114,7 +114,7 @@ fn print_ran(ran: Ran) {
 // The plan of the set in a file that a digit names.
 fn set_of(number: u8) -> Plan {
     let name = [48 + number % 10, b'.', b's', b'e', b't'];
-    program_files::plan_in(&name)
+    program_files::plan_in(b"test_batch", &name)
 }
 
 // No set can hold plan 1: it is plan 0 with revision 0.

@@ -72,7 +72,7 @@ fn wide(x: u64) -> u32 {
 // The plan of the set in a file that a digit names.
 fn set_of(number: u64) -> Plan {
     let name = [48 + (number % 10) as u8, b'.', b's', b'e', b't'];
-    program_files::plan_in(&name)
+    program_files::plan_in(b"test_machines", &name)
 }
 
 fn with_kind_4(mut plan: Plan) -> Plan {

@@ -64,9 +64,9 @@ fn run_file(argument: usize, plan: Plan) {
 }
 
 fn main() {
-    let sleeps = plan_in(b"sleeps.set");
-    let never_sleeps = plan_in(b"never_sleeps.set");
-    let variable = plan_in(b"variable.set");
+    let sleeps = plan_in(b"test_moves", b"sleeps.set");
+    let never_sleeps = plan_in(b"test_moves", b"never_sleeps.set");
+    let variable = plan_in(b"test_moves", b"variable.set");
     let count = os::arg_count();
     let mut i: usize = 1;
     while i < count {
