@@ -1,8 +1,8 @@
 #!/bin/sh
 # Holds the documents and their links to the repository; builds the archive and runs the C tests against it: each export under
 # sanitizers, the comparisons with the independent implementation, the headers and the symbols, the firmware and the station example; the
-# drill, the explanation and the replay of recorded moves against independent ones; the drill's picture; and the archives for controllers. By
-# gcc, and by clang where it is present. A line for each test; target/tests has what it said.
+# drill, the explanation and the replay of recorded moves against independent ones, and how these programs are called; the drill's picture; and
+# the archives for controllers. By gcc, and by clang where it is present. A line for each test; target/tests has what it said.
 set -eu
 cd "$(dirname "$0")/../.."
 . tests/gate/try.sh
