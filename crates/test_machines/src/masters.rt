@@ -1,4 +1,5 @@
 // Cases of the master.
+ghost use Prim.Native.Nat.{_≤_};
 use crate::middle;
 use crate::narrow;
 use crate::output::print;
@@ -32,20 +33,22 @@ fn hold_of(held: u64, age: u64) -> Hold {
     }
 }
 
-// The second node's places are those of the last of plan 4's.
+// The place of a case's second node, of plan 4 the last.
+fn second(plan: u64) -> usize
+    ensures { λ r. ⌜ r ≤ 15 ⌝ }
+{
+    if plan == 4 { 15 } else { 1 }
+}
+
 fn master_of(v: [u64; 22]) -> Master {
     let start = Master::power_on(true);
+    let node = second(v[1]);
     let mut holds = start.holds;
     holds[0] = hold_of(v[5], v[6]);
+    holds[node] = hold_of(v[7], v[8]);
     let mut causes = start.causes;
     causes[0] = narrow(v[20]);
-    if v[1] == 4 {
-        holds[15] = hold_of(v[7], v[8]);
-        causes[15] = narrow(v[21]);
-    } else {
-        holds[1] = hold_of(v[7], v[8]);
-        causes[1] = narrow(v[21]);
-    }
+    causes[node] = narrow(v[21]);
     let mut counts = start.counts;
     counts[16] = narrow(v[9]);
     counts[17] = narrow(v[10]);
@@ -102,11 +105,10 @@ fn print_command(command: Command) {
 fn print_hold(hold: Hold) {
     if hold.held {
         print(b"held ");
-        print_number(hold.age as u64);
     } else {
         print(b"- ");
-        print_number(hold.age as u64);
     }
+    print_number(hold.age as u64);
 }
 
 fn print_cause(cause: u8) {
@@ -126,18 +128,14 @@ fn print_master(m: Master, plan: u64) {
     let holds = m.holds;
     let causes = m.causes;
     let counts = m.counts;
+    let node = second(plan);
     print_state(state);
     print_phase(phase);
     print_flag(m.permission, b"permits");
     print_hold(holds[0]);
     print_cause(causes[0]);
-    if plan == 4 {
-        print_hold(holds[15]);
-        print_cause(causes[15]);
-    } else {
-        print_hold(holds[1]);
-        print_cause(causes[1]);
-    }
+    print_hold(holds[node]);
+    print_cause(causes[node]);
     print_counts(counts);
     print_number(m.delay as u64);
     print_number(m.ticks as u64);
