@@ -1,6 +1,7 @@
 // What the test prints.
 use libc::STDOUT_FILENO;
 use machine_state::State;
+use set_plan::Row;
 
 pub(crate) fn print(text: &[u8]) {
     io::write_all(STDOUT_FILENO, text);
@@ -27,7 +28,7 @@ pub(crate) fn print_state(state: State) {
 }
 
 // The counts of the plan's first two rows.
-pub(crate) fn print_counts(counts: [u8; 128]) {
+pub(crate) fn print_counts(counts: [u8; Row::REQIDS]) {
     let first = counts[16];
     let second = counts[17];
     print_number(first as u64);

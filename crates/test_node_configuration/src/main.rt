@@ -14,6 +14,9 @@ const NODE: Identity = Identity {
     serial: 0x01020304,
 };
 
+// As long can a request or an answer buffer be.
+const ROOM: usize = 16;
+
 fn print(text: &[u8]) {
     io::write_all(STDOUT_FILENO, text);
 }
@@ -83,13 +86,13 @@ fn run(address: u8, request: &[u8], answer: &mut [u8]) -> u8 {
 fn run_case(address: u8, argument: usize) -> u8 {
     let mut word = io::buffer();
     let letters = os::arg(argument, &mut word);
-    let mut bytes = [0u8; 16];
+    let mut bytes = [0u8; ROOM];
     let count = decode(&word[..letters], &mut bytes);
     if count == 0 {
         return address;
     }
     let length = base_text::below(&bytes, count - 1);
-    let mut buffer = [0xaau8; 16];
+    let mut buffer = [0xaau8; ROOM];
     let room = base_text::below(&buffer, base_bytes::byte_at(&bytes, length) as usize);
     run(address, &bytes[..length], &mut buffer[..room])
 }

@@ -32,11 +32,11 @@ fn refusal(is_move: bool, number: u8) -> u8 {
     if is_move { number } else { 0 }
 }
 
-fn put_nodes(frame: &mut [u8], nodes: [Node; 16])
+fn put_nodes(frame: &mut [u8], nodes: [Node; Plan::NODES])
     requires { ⌜ 2491 ≤ length (now frame) ⌝ }
 {
     let mut k: usize = 0;
-    while k < 16 {
+    while k < Plan::NODES {
         let start = 203 + 143 * k;
         put_node(&mut frame[start..], nodes[k]);
         k += 1;
@@ -71,7 +71,7 @@ fn step_on(plan: Plan, world: World, input: &mut [u8], frame: &mut [u8]) -> Turn
 
 // The turns are counted down, from a number that no run uses up.
 fn run(plan: Plan) {
-    let mut space = [0; 16];
+    let mut space = [0; bus_moves::MOVE_LENGTH];
     let input: &mut [u8] = &mut space;
     let mut room = io::buffer();
     let frame: &mut [u8] = &mut room;
