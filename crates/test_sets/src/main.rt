@@ -12,17 +12,6 @@ fn print_number(number: usize) {
     io::print_decimal(STDOUT_FILENO, number as u64);
 }
 
-fn print_refusal(set: &[u8]) {
-    let answer = set_reader::read(set);
-    print_number(answer.refusal as usize);
-    print(b"\n");
-}
-
-fn record_of(set: &[u8]) -> Plan {
-    let answer = set_reader::read(set);
-    answer.plan
-}
-
 // Whether the front of a buffer holds a set and the rest is as it was.
 fn holds(buffer: &[u8], set: &[u8]) -> bool {
     let mut i: usize = 0;
@@ -36,9 +25,9 @@ fn holds(buffer: &[u8], set: &[u8]) -> bool {
     true
 }
 
-// Writes the record of a set into a buffer that held the byte 170 throughout, and prints what became of it.
-fn write_back(set: &[u8], buffer: &mut [u8]) {
-    let answer = set_writer::write(record_of(set), buffer);
+// Writes a set's record into a buffer that held the byte 170 throughout, and prints what became of it.
+fn write_back(plan: Plan, set: &[u8], buffer: &mut [u8]) {
+    let answer = set_writer::write(plan, buffer);
     print(b"write");
     print_number(answer.refusal as usize);
     print_number(answer.length);
@@ -60,14 +49,17 @@ fn show_file(argument: usize) {
     let mut set = program_files::set_room();
     let read = program_files::read_file(b"test_sets", &name[..name_length], &mut set);
     let count = read.count;
-    print_refusal(&set[..count]);
+    let answer = set_reader::read(&set[..count]);
+    let plan = answer.plan;
+    print_number(answer.refusal as usize);
+    print(b"\n");
     let mut out = io::large_buffer();
     let length = set_text::show(&set[..count], &mut out);
     print(&out[..length]);
     let mut roomy = [170u8; 1600];
-    write_back(&set[..count], &mut roomy);
+    write_back(plan, &set[..count], &mut roomy);
     let mut short = [170u8; 1023];
-    write_back(&set[..count], &mut short);
+    write_back(plan, &set[..count], &mut short);
 }
 
 fn main() {

@@ -13,17 +13,26 @@ abbrev μ-loop : tie.MeasureT-loop
 slice-aggregate-plan-in : tie.Need-slice-aggregate-plan-in Inv-loop μ-loop
 slice-aggregate-plan-in c = search needs
 
+slice-aggregate-plan-in-2 : tie.Need-slice-aggregate-plan-in-2 Inv-loop μ-loop
+slice-aggregate-plan-in-2 c = search needs
+
 plan-in-requires : tie.Need-plan-in-requires Inv-loop μ-loop
 plan-in-requires c κs = search needs
 
-slice-aggregate-plan-in-2 : tie.Need-slice-aggregate-plan-in-2 Inv-loop μ-loop
-slice-aggregate-plan-in-2 c = search needs
+slice-aggregate-plan-in-3 : tie.Need-slice-aggregate-plan-in-3 Inv-loop μ-loop
+slice-aggregate-plan-in-3 c = search needs
+
+slice-aggregate-plan-in-4 : tie.Need-slice-aggregate-plan-in-4 Inv-loop μ-loop
+slice-aggregate-plan-in-4 c = search needs
 
 plan-in-requires-2 : tie.Need-plan-in-requires-2 Inv-loop μ-loop
 plan-in-requires-2 c κs = search needs
 
-slice-aggregate-plan-in-3 : tie.Need-slice-aggregate-plan-in-3 Inv-loop μ-loop
-slice-aggregate-plan-in-3 c = search needs
+slice-aggregate-plan-in-5 : tie.Need-slice-aggregate-plan-in-5 Inv-loop μ-loop
+slice-aggregate-plan-in-5 c = search needs
+
+slice-aggregate-plan-in-6 : tie.Need-slice-aggregate-plan-in-6 Inv-loop μ-loop
+slice-aggregate-plan-in-6 c = search needs
 
 plan-in-requires-3 : tie.Need-plan-in-requires-3 Inv-loop μ-loop
 plan-in-requires-3 c κs = search needs
@@ -65,10 +74,13 @@ main-spec =
     Inv-loop
     μ-loop
     slice-aggregate-plan-in
-    plan-in-requires
     slice-aggregate-plan-in-2
-    plan-in-requires-2
+    plan-in-requires
     slice-aggregate-plan-in-3
+    slice-aggregate-plan-in-4
+    plan-in-requires-2
+    slice-aggregate-plan-in-5
+    slice-aggregate-plan-in-6
     plan-in-requires-3
     arg-count-requires
     loop-holds
