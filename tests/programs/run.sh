@@ -3,7 +3,7 @@
 # compares what each says, `>` on standard output and `!` on standard error, with the text that tests/programs has of it.
 # Run: sh tests/programs/run.sh [FOLDER OF THE PROGRAMS]
 set -eu
-programs=$(realpath "${1:-target/bin}")
+programs=$(realpath "${1:-$(dirname "$0")/../../target/bin}")
 cd "$(dirname "$0")/../.."
 wanted=$PWD/tests/programs
 work=$(mktemp -d)
