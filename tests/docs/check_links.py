@@ -5,6 +5,7 @@ Usage: check_links.py, at the repository's root.
 A link or an image leads to what the repository has, and with a #fragment to a heading; one with a scheme is not followed. A path that
 begins with a folder of FOLDERS, and a name as the top and docs have them, is there; in a path `*`, CRATE and FILE stand for any text
 without `/`, and docs/changes may have names of their day (docs/changes/NAMES.md). target/ and .git are no part of the repository.
+A page that says what the drill prints has the moves and lines of crates/drill.
 The two papers from which the product was built are called by their numbers in PAPERS alone; other pages, and sources, cite requirements."""
 import collections
 import os
@@ -21,6 +22,8 @@ ANY = r"\*|\bCRATE\b|\bFILE\b"
 LINK = r"\]\(([^()\s]*)|^\[[^\]]+\]:\s+(\S+)"
 CITED = r"ocuments?[\s#*/]+0[12]\b"  # over the end of a comment's line too
 WIDTH, README, README_WIDTH, README_LINES = 160, "README.md", 120, 120
+DRILL = r"^    (\w+(?: \w+)*) +(\d+ [NSZ][0-3] [01] \S+ \d+)(?:  |$)"  # a move and its line
+DRILL_HEADING, MOVES, LINES = "\n## What the drill prints\n", "crates/drill/stdin", "crates/drill/stdout"
 
 
 def read_bytes(path):
@@ -99,6 +102,14 @@ class Page:
             self.line = self.text.count("\n", 0, match.start()) + 1
             self.hold("citation", False, "d" + " ".join(match[0].split()))
 
+    def drill(self):
+        """The moves and lines under that heading, each with the stored one."""
+        shown = re.findall(DRILL, self.text, flags=re.M)
+        stored = list(zip(read_file(MOVES).splitlines(), read_file(LINES).splitlines()))
+        self.hold("number of moves", len(shown) == len(stored), "%d, not %d" % (len(shown), len(stored)))
+        for have, want in zip(shown, stored):
+            self.hold("move", have == want, "%s, not %s" % (" | ".join(have), " | ".join(want)))
+
     def check(self):
         lines = self.text.split("\n")[:-1]
         for self.line, line in enumerate(lines, 1):
@@ -111,6 +122,8 @@ class Page:
                 self.name(name)
         if self.path == README:
             self.hold("height", len(lines) <= README_LINES, "%d lines, not %d" % (len(lines), README_LINES))
+        if DRILL_HEADING in self.text:
+            self.drill()
         self.cited()
         return self.wrong
 
@@ -134,8 +147,8 @@ def main():
     if wrong:
         sys.exit("\n".join(wrong))
     held = sum((page.held for page in pages), collections.Counter())
-    counts = len(pages), sum(path.endswith(".md") for path in repository.files), held["link"], held["heading"], held["path"], held["name"]
-    print("links: %d files, %d of Markdown with %d links, %d headings, %d paths and %d names: all found" % counts)
+    counts = len(pages), sum(path.endswith(".md") for path in repository.files), *(held[kind] for kind in ("link", "heading", "path", "name", "move"))
+    print("links: %d files, %d of Markdown with %d links, %d headings, %d paths, %d names and %d moves: all found" % counts)
 
 
 if __name__ == "__main__":

@@ -46,6 +46,10 @@ WRONG = [
     (ARCHITECTURE, "", 161 * "x" + "\n", "width: 161 characters, not 160"),
     (W_204, "", 161 * "x" + "\n", "width: 161 characters, not 160"),
     (README, "", README_LINES * "x\n", "height: "),
+    # README's drill: a move, a line, one left out
+    (README, "req 16 ok    7 N0 1 N 0", "req 16 bad   7 N0 1 N 0", "move: req 16 bad | 7 N0 1 N 0"),
+    (README, "8 N1 1 N 0     accepted", "8 N1 1 N 1     accepted", "move: sleep | 8 N1 1 N 1"),
+    (README, "    tick         12 Z0 0 Z 0    node 0 sleeps\n", "", "number of moves: 11, not 12"),
     # citations: of a page, over the end of a line, of a source, of both papers
     (README, "", "Document%s has it.\n" % NUMBER, "citation: document" + NUMBER),
     (HOST, "", "the document\n%s\n" % NUMBER.strip(), "citation: document" + NUMBER),
