@@ -35,14 +35,14 @@ unfolding holdAll
 hold-done h z part i p e = rw (drop-of-length-le part p) at e
 
 -- what is held of a line is its front
-held-all : (h : Held) (l : List ℕ) → length (h .bytes) ≡ 32 → h .count ≤ room → heldText (holdAll h l) ≡ take room (heldText h ++ l)
+held-all : (h : Held) (l : List ℕ) → length (h .bytes) ≡ room → h .count ≤ room → heldText (holdAll h l) ≡ take room (heldText h ++ l)
 unfolding holdAll
 held-all h [] w p =
     let e : length (heldText h ++ []) ≤ room = omega (arith, length-append (heldText h) [], length-take (h .count) (h .bytes)) in
     sym (take-all room (heldText h ++ []) e ∙ append-nil (heldText h))
 held-all h (c ∷ l) w p = go (held-all (record { bytes = set (h .bytes) (h .count) c; count = h .count + 1 }) l) (decLt (h .count) room)
   where
-    go : (length (set (h .bytes) (h .count) c) ≡ 32 → h .count + 1 ≤ room
+    go : (length (set (h .bytes) (h .count) c) ≡ room → h .count + 1 ≤ room
         → heldText (holdAll (record { bytes = set (h .bytes) (h .count) c; count = h .count + 1 }) l) ≡ take room (take (h .count + 1) (set (h .bytes) (h .count) c) ++ l))
         → Dec (h .count < room) → heldText (holdAll h (c ∷ l)) ≡ take room (heldText h ++ (c ∷ l))
     go ih (yes q) =

@@ -3,6 +3,7 @@ use native.Mathlib.Omega.{arith}
 use lib.ListN.{length}
 use lib.Seq.{length-take-le, take-all}
 use Rattle.drill_line.specs.Parse.{parseLine}
+use Rattle.drill_feed.specs.Feed.{room}
 use borrow.Author.Needs.{needs}
 use Rattle.drill_feed.proofs.Held.line.Statement.{statement}
 use Rattle.drill_feed.proofs.Held.line.Tie as tie
@@ -16,17 +17,17 @@ parse-requires c κs = search needs
 returns : tie.Need-returns
 returns c =
     let a = c .before .before .before .before .args in
-    let w : length (a .self .bytes) ≡ 32 = search needs in
+    let w : length (a .self .bytes) ≡ room = search needs in
     c .parse .ensures ∙ ap (λ l. parseLine l (a .nodecount)) (sym (take-all (a .self .count) (a .self .bytes) (omega arith)))
 
 array-share-prefix-bytes : tie.Need-array-share-prefix-bytes
 array-share-prefix-bytes c =
-    let w : length (c .before .before .args .self .bytes) ≡ 32 = search needs in
+    let w : length (c .before .before .args .self .bytes) ≡ room = search needs in
     omega arith
 
 slice-aggregate-parse-2 : tie.Need-slice-aggregate-parse-2
 slice-aggregate-parse-2 c =
-    let w : length (c .before .before .before .args .self .bytes) ≡ 32 = search needs in
+    let w : length (c .before .before .before .args .self .bytes) ≡ room = search needs in
     sym (length-take-le _ _ (omega arith))
 
 parse-requires-2 : tie.Need-parse-requires-2

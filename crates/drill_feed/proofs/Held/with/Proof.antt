@@ -3,14 +3,14 @@ use Prim.Native.Nat.{_-_, _≤_}
 use mathlib.Core.Path.{_≡_, refl, sym, _∙_}
 use native.Mathlib.Omega.{arith}
 use lib.ListN.{length, drop, length-set}
-use Rattle.drill_feed.specs.Feed.{holdAll}
+use Rattle.drill_feed.specs.Feed.{room, holdAll}
 use Rattle.drill_feed.proofs.Holding.{hold-full, hold-turn, hold-done}
 use borrow.Author.Needs.{needs}
 use Rattle.drill_feed.proofs.Held.with.Statement.{statement}
 use Rattle.drill_feed.proofs.Held.with.Tie as tie
 
 abbrev Inv-loop : tie.InvT-loop
-Inv-loop part bytes₀ count₀ i₀ bytes count i = (i ≤ length part) × (length bytes ≡ 32) × (holdAll (record { bytes = bytes; count = count }) (drop i part) ≡ holdAll (record { bytes = bytes₀; count = count₀ }) part)
+Inv-loop part bytes₀ count₀ i₀ bytes count i = (i ≤ length part) × (length bytes ≡ room) × (holdAll (record { bytes = bytes; count = count }) (drop i part) ≡ holdAll (record { bytes = bytes₀; count = count₀ }) part)
 
 abbrev μ-loop : tie.MeasureT-loop
 μ-loop part bytes₀ count₀ i₀ bytes count i = length part - i
