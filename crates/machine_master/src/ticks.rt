@@ -1,6 +1,7 @@
 // Ticks of the master.
 ghost use mathlib.Core.Path.{_≡_};
-ghost use Rattle.machine_master.specs.Ticks.{aged, toNormal, toSleep, switchClock, delayTick, tickStep};
+ghost use mathlib.Core.Bool.{true, false};
+ghost use Rattle.machine_master.specs.Ticks.{aged, toNormal, toSleep, delayTick, tickStep};
 use crate::Command;
 use crate::Master;
 use crate::Phase;
@@ -57,26 +58,28 @@ impl Master {
         }
     }
 
-    fn switch_clock(self, on: bool) -> Reply
-        ensures { λ r. ⌜ r ≡ switchClock on self ⌝ }
-    {
-        if on {
-            commands(self.to_normal(), Command::ClockOn)
-        } else {
-            commands(self.to_sleep(), Command::ClockOff)
-        }
-    }
-
-    // A tick in Standby or Closing, whose last one switches the clock.
-    fn delay_tick(mut self, last: u16, on: bool) -> Reply
-        ensures { λ r. ⌜ r ≡ delayTick last on self ⌝ }
+    // One function for the two, as their definition is, would copy the master once more in each tick.
+    fn standby_tick(mut self, start: u16) -> Reply
+        ensures { λ r. ⌜ r ≡ delayTick start true self ⌝ }
     {
         let delay = self.delay;
-        if (delay as u32) + 1 < (last as u32) {
+        if (delay as u32) + 1 < (start as u32) {
             self.delay = delay + 1;
             silent(self)
         } else {
-            self.switch_clock(on)
+            commands(self.to_normal(), Command::ClockOn)
+        }
+    }
+
+    fn closing_tick(mut self, stop: u16) -> Reply
+        ensures { λ r. ⌜ r ≡ delayTick stop false self ⌝ }
+    {
+        let delay = self.delay;
+        if (delay as u32) + 1 < (stop as u32) {
+            self.delay = delay + 1;
+            silent(self)
+        } else {
+            commands(self.to_sleep(), Command::ClockOff)
         }
     }
 
@@ -88,12 +91,12 @@ impl Master {
         let next = self.aged(times.window);
         match state {
             State::Sleep => silent(next),
-            State::Standby => next.delay_tick(times.start, true),
+            State::Standby => next.standby_tick(times.start),
             State::Normal => match phase {
                 Phase::Open => silent(next),
                 Phase::Sending => silent(next),
                 Phase::Withdrawn => silent(next),
-                Phase::Closing => next.delay_tick(times.stop, false),
+                Phase::Closing => next.closing_tick(times.stop),
             },
         }
     }

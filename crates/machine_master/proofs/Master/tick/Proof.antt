@@ -14,8 +14,8 @@ silent-requires c κs = search needs
 enum-told-2 : tie.Need-enum-told-2
 enum-told-2 c = search needs
 
-delay-tick-requires : tie.Need-delay-tick-requires
-delay-tick-requires c κs = search needs
+standby-tick-requires : tie.Need-standby-tick-requires
+standby-tick-requires c κs = search needs
 
 enum-told-3 : tie.Need-enum-told-3
 enum-told-3 c = search needs
@@ -41,8 +41,8 @@ silent-requires-4 c κs = search needs
 enum-told-7 : tie.Need-enum-told-7
 enum-told-7 c = search needs
 
-delay-tick-requires-2 : tie.Need-delay-tick-requires-2
-delay-tick-requires-2 c κs = search needs
+closing-tick-requires : tie.Need-closing-tick-requires
+closing-tick-requires c κs = search needs
 
 returns : tie.Need-returns
 returns c =
@@ -55,7 +55,7 @@ returns c =
 returns-2 : tie.Need-returns-2
 returns-2 c =
     rw (
-      c .delay-tick .ensures,
+      c .standby-tick .ensures,
       c .before .before .before .aged .ensures,
       c .before .enum-told2 .given .1,
     )
@@ -90,7 +90,7 @@ returns-5 c =
 returns-6 : tie.Need-returns-6
 returns-6 c =
     rw (
-      c .delay-tick2 .ensures,
+      c .closing-tick .ensures,
       c .before .before .before .before .before .aged .ensures,
       c .before .before .before .enum-told3 .given .1,
       c .before .enum-told7 .given .1,
@@ -104,7 +104,7 @@ tick-spec =
     enum-told
     silent-requires
     enum-told-2
-    delay-tick-requires
+    standby-tick-requires
     enum-told-3
     enum-told-4
     silent-requires-2
@@ -113,7 +113,7 @@ tick-spec =
     enum-told-6
     silent-requires-4
     enum-told-7
-    delay-tick-requires-2
+    closing-tick-requires
     returns
     returns-2
     returns-3

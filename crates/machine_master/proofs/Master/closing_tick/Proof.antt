@@ -1,7 +1,7 @@
 use borrow.Author.Needs.{needs}
 use borrow.Author.Tests.{le-ltb, lt-ltb}
-use Rattle.machine_master.proofs.Master.delay_tick.Statement.{statement}
-use Rattle.machine_master.proofs.Master.delay_tick.Tie as tie
+use Rattle.machine_master.proofs.Master.closing_tick.Statement.{statement}
+use Rattle.machine_master.proofs.Master.closing_tick.Tie as tie
 
 cast-if1 : tie.Need-cast-if1
 cast-if1 c = search needs
@@ -15,8 +15,11 @@ add-self c = search needs
 silent-requires : tie.Need-silent-requires
 silent-requires c κs = search needs
 
-switch-clock-requires : tie.Need-switch-clock-requires
-switch-clock-requires c κs = search needs
+to-sleep-requires : tie.Need-to-sleep-requires
+to-sleep-requires c κs = search needs
+
+commands-requires : tie.Need-commands-requires
+commands-requires c κs = search needs
 
 returns : tie.Need-returns
 returns c =
@@ -28,18 +31,20 @@ returns c =
 returns-2 : tie.Need-returns-2
 returns-2 c =
     rw (
-      c .switch-clock .ensures,
-      le-ltb _ _ (c .before .if1 .left),
+      c .commands .ensures,
+      c .before .to-sleep .ensures,
+      le-ltb _ _ (c .before .before .if1 .left),
     )
 
-pub delay-tick-spec : {M : Type 1} → statement M
-delay-tick-spec =
+pub closing-tick-spec : {M : Type 1} → statement M
+closing-tick-spec =
     tie.close
     (tie.spec
     cast-if1
     add-if1
     add-self
     silent-requires
-    switch-clock-requires
+    to-sleep-requires
+    commands-requires
     returns
     returns-2)
