@@ -58,7 +58,7 @@ impl Master {
         }
     }
 
-    // One function for the two, as their definition is, would copy the master once more in each tick.
+    // One function for the two, as their definition is, makes the drill slower (docs/DECISIONS.md).
     fn standby_tick(mut self, start: u16) -> Reply
         ensures { λ r. ⌜ r ≡ delayTick start true self ⌝ }
     {
