@@ -1,8 +1,9 @@
 #!/bin/sh
-# Holds the documents and their links to the repository; builds the archive and runs the C tests against it: each export under
-# sanitizers, the comparisons with the independent implementation, the headers and the symbols, the firmware and the station example; the
-# drill, the explanation and the replay of recorded moves against independent ones, and how these programs are called; the drill's picture; and
-# the archives for controllers. By gcc, and by clang where it is present. A line for each test; target/tests has what it said.
+# Runs two lists of tests at once. One is of the C calls, against the archive that it builds: each export under sanitizers, the comparisons
+# with the independent implementation, the headers and the symbols, the firmware and the station example, the archives for controllers; by
+# gcc, and by clang where it is present. The other is of the documents and their links, held to the repository, and of the programs: how they
+# are called, the drill, the explanation and the replay of recorded moves against independent ones, the drill's picture. A line for each
+# test; target/tests has what it said.
 set -eu
 cd "$(dirname "$0")/../.."
 . tests/gate/try.sh
@@ -13,18 +14,6 @@ reference="$independent/reference_packed.c $independent/reference.c"
 flags="-std=c11 -Wall -Wextra -Werror -pedantic"
 checked="-O1 -g -fsanitize=address,undefined -fno-sanitize-recover=all"
 mkdir -p $out
-
-# Needs nothing built, so first.
-for document in trace conformance requirements links limits; do
-    try $document python3 tests/docs/check_$document.py
-    try ${document}_test python3 tests/docs/check_${document}_test.py
-done
-
-# Proves nothing again after rt ci, but for the crates of C calls, which are proved with their archive; their modules are kept for the controllers.
-try programs rt check drill why replay test_states show
-try programs_arguments sh tests/programs/run.sh
-try archive sh firmware/module.sh
-try symbols sh tests/c/symbols.sh $archive include/cxpi.h
 
 # The tests under sanitizers, of a compiler.
 exports() {
@@ -53,30 +42,31 @@ station() {
     sh tests/c/station.sh $out/station | cmp - examples/station/stdout
 }
 
-echo 'int main(void) { return 0; }' > $out/probe.c
-for compiler in gcc clang; do
-    # gcc is needed, clang may be missing, or its sanitizers
-    if [ $compiler = clang ] && ! $compiler $checked $out/probe.c -o $out/probe 2> /dev/null; then
-        echo "no clang with sanitizers here"
-        continue
-    fi
-    for test in exports compare configuration firmware station; do
-        try ${test}_$compiler $test $compiler
-    done
-done
-try header sh tests/c/header.sh
-
 compare_long() {
     gcc $flags -O2 -Iinclude -I$independent tests/c/compare.c $reference $archive -o $out/compare
     $out/compare
 }
-try compare compare_long
 
-# The independent drill, by the moves of R6.7.
-try independent_drill sh $independent/check_drill.sh
-
-# Its lines as a picture.
-try picture python3 tests/picture/check.py
+test_calls() {
+    # The crates of C calls are proved with their archive; their modules are kept for the controllers.
+    try archive sh firmware/module.sh
+    try symbols sh tests/c/symbols.sh $archive include/cxpi.h
+    echo 'int main(void) { return 0; }' > $out/probe.c
+    for compiler in gcc clang; do
+        # gcc is needed, clang may be missing, or its sanitizers
+        if [ $compiler = clang ] && ! $compiler $checked $out/probe.c -o $out/probe 2> /dev/null; then
+            echo "no clang with sanitizers here"
+            continue
+        fi
+        for test in exports compare configuration firmware station; do
+            try ${test}_$compiler $test $compiler
+        done
+    done
+    try header sh tests/c/header.sh
+    try compare compare_long
+    # The same calls for controllers.
+    sh tests/firmware/run.sh
+}
 
 # The drill against the independent one: long lists, plain and with odd lines, over both profiles.
 stored_drills() {
@@ -97,25 +87,44 @@ random_drills() {
     done
     echo "1200000 lines, over both profiles, as the independent drill prints them"
 }
-try stored_drills stored_drills
-try random_drills random_drills
 
-# The line why: the independent program by cases worked out by hand and by faults that must be found; then the product by the same cases, and
-# against it on as many lines as the drill, in short lists.
-try why_faults sh tests/why/faults.sh
-try why_cases python3 tests/why/check.py target/bin/why
-try why python3 tests/why/compare.py target/bin/why "$out/reference_drill why"
-
-# Recorded moves: the independent bus by lists worked out by hand and by faults that must be found; then the product by the same lists, by
-# the example recording, and against it on two million random moves.
 recording() {
     cd examples/recording
     ../../target/bin/replay < moves | cmp - stdout
 }
-try replay_faults sh $independent/check_replay.sh
-try replay_cases python3 $independent/check_replay.py target/bin/replay target/bin/test_states
-try recording recording
-try replay sh $independent/compare_moves.sh target/bin/replay target/bin/test_states
 
-# The same calls for controllers.
-sh tests/firmware/run.sh
+test_documents() {
+    for document in trace conformance requirements links limits; do
+        try $document python3 tests/docs/check_$document.py
+        try ${document}_test python3 tests/docs/check_${document}_test.py
+    done
+}
+
+test_programs() {
+    try programs_arguments sh tests/programs/run.sh
+    # The independent drill, by the moves of R6.7; the drill's lines as a picture.
+    try independent_drill sh $independent/check_drill.sh
+    try picture python3 tests/picture/check.py
+    try stored_drills stored_drills
+    try random_drills random_drills
+    # The line why: the independent program by cases worked out by hand and by faults that must be found; then the product by the same
+    # cases, and against it on as many lines as the drill, in short lists.
+    try why_faults sh tests/why/faults.sh
+    try why_cases python3 tests/why/check.py target/bin/why
+    try why python3 tests/why/compare.py target/bin/why "$out/reference_drill why"
+    # Recorded moves: the independent bus by lists worked out by hand and by faults that must be found; then the product by the same lists,
+    # by the example recording, and against it on two million random moves.
+    try replay_faults sh $independent/check_replay.sh
+    try replay_cases python3 $independent/check_replay.py target/bin/replay target/bin/test_states
+    try recording recording
+    try replay sh $independent/compare_moves.sh target/bin/replay target/bin/test_states
+}
+
+test_documents_and_programs() {
+    test_documents
+    test_programs
+}
+
+# Proves nothing again after rt ci.
+try programs rt check drill why replay test_states show
+both test_calls test_documents_and_programs

@@ -14,12 +14,29 @@ try() {
     ) > "$log" 2>&1
     status=$?
     set -e
-    printf '%5d s  %s' $(($(date +%s) - began)) "$name"
+    seconds=$(($(date +%s) - began))
     if [ $status -ne 0 ]; then
-        echo " FAILED, status $status:"
-        cat "$log"
+        printf '%5d s  %s FAILED, status %d:\n%s\n' $seconds "$name" $status "$(cat "$log")"
         exit 1
     fi
     line=$(tail -n 1 "$log")
-    echo "${line:+: ${line#"$name: "}}"
+    printf '%5d s  %s\n' $seconds "$name${line:+: ${line#"$name: "}}"
+}
+
+# Runs two lists of tests at once, each a function that calls try, and ends the script where one of them failed: both FIRST SECOND
+both() {
+    "$1" &
+    first=$!
+    "$2" &
+    second=$!
+    # What runs behind does not see the keyboard's interrupt.
+    trap 'kill $first $second; exit 130' INT TERM
+    failed=
+    wait $first || failed=yes
+    wait $second || failed=yes
+    trap - INT TERM
+    [ -z "$failed" ] || {
+        echo "a test FAILED, see above"
+        exit 1
+    }
 }
