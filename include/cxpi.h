@@ -17,7 +17,7 @@
  *   cxpi_*_step           3 to 8 of the plan record; 10 for the reply buffer; 11; 15; 16; 25; the rest by number: 12, 13, 14, 17 to 21
  *   cxpi_master_batch     22; the numbers of a step stand in the reply records, in a step's order
  *   cxpi_master_why       3 to 8 of the plan record; 10 for the reply buffer; 11; 16
- *   cxpi_node_configure   11 for another length of the identity; 23; 24; 10 for the answer buffer
+ *   cxpi_node_configure   11 for another length of the identity; 23; 24; 10 for the response buffer
  *
  * A plan record of another length than CXPI_PLAN_LENGTH is taken for the all-zero record, which is 4. A state of another length is 11,
  * an event of another length 15. A buffer that is to be written may be longer than what is written.
@@ -31,7 +31,7 @@
  *                         but that 13 and 14 change the master's
  *   cxpi_master_batch     after 22 every byte as it was; an event that is refused leaves what its step leaves, and those after it run
  *   cxpi_master_why       in the reply zeros, after 10 the reply buffer as it was
- *   cxpi_node_configure   length 0, address and answer buffer as they were
+ *   cxpi_node_configure   length 0, address and response buffer as they were
  *
  * A buffer that is too short is never written, and bytes past what is written stay in every call.
  *
@@ -322,19 +322,19 @@ uint32_t cxpi_node_step(const uint8_t *plan, size_t plan_length, uint8_t node, u
 #define CXPI_NODE_CONFIGURATION_FILE_AVAILABILITY 0xFF04
 #define CXPI_DATA_DUMP 0xFF06
 
-/* The longest answer of the node configuration. */
+/* The longest response of the node configuration. */
 #define CXPI_CONFIGURATION_LENGTH 8
 
-/* Gives a node a request of the node configuration (ISO 14229-8, 8.8.3, 8.8.5 and 8.8.6). The requests and their answers, in hex:
+/* Gives a node a request of the node configuration (ISO 14229-8, 8.8.3, 8.8.5 and 8.8.6). The requests and their responses, in hex:
  *
  *   2E FF 07, supplier, function, new address   6E FF 07
  *   22 FF 05                                    62 FF 05, supplier, function, variant
  *   22 F1 8C                                    62 F1 8C, serial number
  *
  * The first changes the address. Where it is for another supplier or function, or of an address outside 1 to 125, it meets silence:
- * CXPI_DONE, and all is left as a refusal leaves it. length is the answer's, 0 for silence. */
+ * CXPI_DONE, and all is left as a refusal leaves it. length is the response's, 0 for silence. */
 uint32_t cxpi_node_configure(const uint8_t *identity, size_t identity_length, uint8_t *address, const uint8_t *request,
-                             size_t request_length, uint8_t *answer, size_t answer_length, uint8_t *length);
+                             size_t request_length, uint8_t *response, size_t response_length, uint8_t *length);
 
 #ifdef __cplusplus
 }

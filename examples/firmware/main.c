@@ -185,14 +185,14 @@ static const uint8_t identity_in_flash[CXPI_IDENTITY_LENGTH] = {
     [CXPI_IDENTITY_SERIAL_NUMBER_AT] = 0x01, 0x02, 0x03, 0x04 /* serial number 01020304 hex */
 };
 
-/* A request that the bus brought; what the call leaves in the answer is to be sent, nothing where the node is silent. */
+/* A request that the bus brought; what the call leaves in the response is to be sent, nothing where the node is silent. */
 static void configure_node(const uint8_t *request, size_t request_length) {
-    uint8_t answer[CXPI_CONFIGURATION_LENGTH], length;
-    cxpi_node_configure(identity_in_flash, sizeof identity_in_flash, &address_of_node, request, request_length, answer, sizeof answer,
-                        &length);
+    uint8_t response[CXPI_CONFIGURATION_LENGTH], length;
+    cxpi_node_configure(identity_in_flash, sizeof identity_in_flash, &address_of_node, request, request_length, response,
+                        sizeof response, &length);
     printf("  node 0:");
     for (unsigned place = 0; place < length; place++) {
-        printf(" %02X", answer[place]);
+        printf(" %02X", response[place]);
     }
     printf("%s, address %02X hex\n", length == 0 ? " silence" : "", address_of_node);
 }

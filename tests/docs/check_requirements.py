@@ -20,7 +20,7 @@ from check_header import HEADER, LAYOUTS, LIMITS, NUMBER, PREFIX, figures, liste
 
 REQUIREMENTS, SET_T, MOVED, PRINTED = "docs/REQUIREMENTS.md", "examples/set-t/plan.set", "crates/drill/stdin", "crates/drill/stdout"
 NAMES, IN_T, RECORD, REFUSED = "In cxpi.h", "In T", "Record", "Given exactly when"
-MOVES, REQUESTS = ["Bytes", RECORD], ["Request", "Condition", "Answer"]
+MOVES, REQUESTS = ["Bytes", RECORD], ["Request", "Condition", "Response"]
 BLOCK = 512
 REQUIREMENT = r"R(\d+)\.(\d+)"
 

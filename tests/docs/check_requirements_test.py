@@ -22,7 +22,7 @@ ELSEWHERE = [
     ("| Number | Given exactly when | In cxpi.h |", "| Number | Given when | In cxpi.h |"),
     ("| Bytes | Record |\n", "| Bytes | Recorded |\n"),
     ("| Call | Order |", "| Calls | Order |"),
-    ("| Request | Condition | Answer |", "| Request | If | Answer |"),
+    ("| Request | Condition | Response |", "| Request | If | Response |"),
     ("| Bytes | Record | Message block | Limit | In T | In cxpi.h |", "| Bytes | Record | Message block | Limit | T | In cxpi.h |"),
     # a move, what it prints, and a move that is left out
     ("    permit m 1    4 N0 1 N 0\n", "    permit m 0    4 N0 1 N 0\n"),

@@ -27,15 +27,15 @@ asked woken =
     record { tick = false; clock = false; stop = false; asked = true; woken = woken; permission = PermissionChange.Nobody; arrival = Arrival.Nothing; sending = false; result = SendResult.Unknown; slept = replicate maxNodes false }
 
 -- a permission that an application gave or took back
-abbrev pub said : PermissionChange → Passed
-said permission =
+abbrev pub permissionChanged : PermissionChange → Passed
+permissionChanged permission =
     record { tick = false; clock = false; stop = false; asked = false; woken = false; permission = permission; arrival = Arrival.Nothing; sending = false; result = SendResult.Unknown; slept = replicate maxNodes false }
 
 abbrev pub masterPermits : Bool → Passed
-masterPermits permitted = said (PermissionChange.Master permitted)
+masterPermits permitted = permissionChanged (PermissionChange.Master permitted)
 
 abbrev pub nodePermits : ℕ → Bool → Passed
-nodePermits node permitted = said (PermissionChange.Node node permitted)
+nodePermits node permitted = permissionChanged (PermissionChange.Node node permitted)
 
 -- an answer that reached the master, and its row
 abbrev pub answered : Row → Answer → Passed

@@ -13,7 +13,7 @@ use Rattle.bus.specs.declared.Damage.{Damage}
 use Rattle.bus.specs.declared.Fate.{Fate}
 use Rattle.bus.specs.declared.Move.{Move}
 
--- the bytes of a record: `RECORD_LENGTH`
+-- the bytes of a recorded move: `MOVE_LENGTH`
 abbrev pub moveLength : ℕ
 moveLength = 16
 

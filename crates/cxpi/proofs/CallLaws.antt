@@ -17,7 +17,7 @@ use Rattle.set_plan.specs.Profile.{sleeps}
 use Rattle.set_plan.specs.Rules.{planRefusal}
 use Rattle.set_record.specs.Record.{recordOf, recordBytes}
 use Rattle.set_record.proofs.Records.{zero-bytes}
-use Rattle.set_reader.specs.declared.ReadAnswer.{ReadAnswer}
+use Rattle.set_reader.specs.declared.ReadResult.{ReadResult}
 use Rattle.set_reader.specs.Read.{setRefusal, readSet}
 use Rattle.set_reader.proofs.ReadResults.{read-record-back}
 use Rattle.set_writer.specs.Write.{writeSet}
@@ -29,28 +29,28 @@ use Rattle.machine_master.proofs.Refusals as MasterRefusals
 use Rattle.packed_master.specs.States.{isMaster, masterOf}
 use Rattle.machine_events.specs.Events.{noEvent}
 use Rattle.packed_master.specs.Events as MasterEvents
-use Rattle.packed_master.proofs.StateTrips.{none-in-range}
+use Rattle.packed_master.proofs.StateTrips as MasterTrips
 use Rattle.machine_node.specs.Range as NodeRange
 use Rattle.machine_node.specs.Step as NodeStep
-use Rattle.packed_node.specs.States.{isNode, nodeOf, noNode}
+use Rattle.packed_node.specs.States.{isNode, nodeOf, nodeOutOfRange}
 use Rattle.packed_node.specs.Events as NodeEvents
 use Rattle.cxpi.specs.MasterCalls.{masterReply}
 
 -- "bytes that are no state give 11"
 pub no-master-state : (p : Plan) (s : List ℕ) → isMaster s ≡ false → MasterRange.inRange (sleeps p) (p .nodecount) (p .times) (masterOf s) ≡ false
-no-master-state p s e = rw e (none-in-range (sleeps p) (p .nodecount) (p .times))
+no-master-state p s e = rw e (MasterTrips.never-in-range (sleeps p) (p .nodecount) (p .times))
 
-no-node : (sleeps : Bool) (t : Times) → NodeRange.inRange sleeps t noNode ≡ false
+never-in-range : (sleeps : Bool) (t : Times) → NodeRange.inRange sleeps t nodeOutOfRange ≡ false
 unfolding NodeRange.inRange
-no-node false t = refl
-no-node true t = go (leb 0 (t .quiet)) (countsBelow 4 (noNode .counts))
+never-in-range false t = refl
+never-in-range true t = go (leb 0 (t .quiet)) (countsBelow 4 (nodeOutOfRange .counts))
   where
     go : (a b : Bool) → (a && true && false && b) ≡ false
     go true b = refl
     go false b = refl
 
 pub no-node-state : (sleeps : Bool) (t : Times) (s : List ℕ) → isNode s ≡ false → NodeRange.inRange sleeps t (nodeOf s) ≡ false
-no-node-state sleeps t s e = rw e (no-node sleeps t)
+no-node-state sleeps t s e = rw e (never-in-range sleeps t)
 
 -- "bytes that are no event 15"
 pub no-master-event : MasterStep.eventRight noEvent ≡ false
@@ -89,4 +89,4 @@ set-back set bytes e = ap writeSet (read-record-back set) ∙ written-of-read se
 
 -- a record written and read back is the plan with its unused places zero
 pub record-read-back : (plan : List ℕ) → planRefusal (recordOf plan) ≡ 0 → recordBytes (readSet (writeSet (recordOf plan)) .plan) ≡ recordBytes (unusedZero (recordOf plan))
-record-read-back plan e = ap (λ (a : ReadAnswer). recordBytes (a .plan)) (read-of-written (recordOf plan) e)
+record-read-back plan e = ap (λ (a : ReadResult). recordBytes (a .plan)) (read-of-written (recordOf plan) e)

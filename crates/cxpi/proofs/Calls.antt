@@ -9,8 +9,8 @@ use native.Mathlib.Omega.{arith}
 use borrow.Author.Tests.{eq-eqb, ne-eqb}
 use Rattle.base_lists.proofs.Choices.{by-test}
 use Rattle.set_plan.specs.declared.Plan.{Plan}
-use Rattle.set_writer.specs.declared.WriteAnswer.{WriteAnswer}
-use Rattle.set_writer.specs.Write.{setLength, writeRefusal, writeAnswer}
+use Rattle.set_writer.specs.declared.WriteResult.{WriteResult}
+use Rattle.set_writer.specs.Write.{setLength, writeRefusal, writeResult}
 use Rattle.machine_node.specs.declared.Reply as NodeReply
 use Rattle.machine_master.specs.declared.Reply as MasterReply
 use Rattle.packed_master.specs.States.{masterBytes}
@@ -37,9 +37,9 @@ module _ (r s : NodeReply.Reply) (is : r ≡ s) (state reply said : List ℕ) (e
   node-changed z after f = rw (← is, eq-eqb (r .refusal) 0 z) (sym z, f, e)
 
 -- a set's length is a number of 16 bits
-pub answer-short : (p : Plan) (room : ℕ) (a : WriteAnswer) → a ≡ writeAnswer p room → a .length ≤ 1536
-unfolding writeAnswer setLength
-answer-short p room a e =
-    rw e (by-test (λ (x : WriteAnswer). x .length ≤ 1536) (eqb (writeRefusal p room) 0)
+pub result-short : (p : Plan) (room : ℕ) (a : WriteResult) → a ≡ writeResult p room → a .length ≤ 1536
+unfolding writeResult setLength
+result-short p room a e =
+    rw e (by-test (λ (x : WriteResult). x .length ≤ 1536) (eqb (writeRefusal p room) 0)
     (λ _. by-test (λ (n : ℕ). n ≤ 1536) (leb (p .rowcount) 100) (λ _. omega arith) (λ _. omega arith))
     (λ _. omega arith))

@@ -3,7 +3,7 @@ ghost use mathlib.Core.Path.{_≡_};
 ghost use lib.ListN.{length};
 ghost use Rattle.set_record.specs.Record.{recordOf, recordWritten};
 ghost use Rattle.set_reader.specs.Read.{readSet, recordRefusal};
-ghost use Rattle.set_writer.specs.Write.{writeAnswer, written};
+ghost use Rattle.set_writer.specs.Write.{writeResult, written};
 use set_reader::read_record;
 use set_writer::write_record;
 
@@ -17,9 +17,9 @@ pub extern "C" fn cxpi_read(set: &[u8], plan: &mut [u8]) -> u32
 
 #[no_mangle]
 pub extern "C" fn cxpi_write(plan: &[u8], set: &mut [u8], size: &mut u16) -> u32
-    ensures { λ r. ⌜ (r ≡ writeAnswer (recordOf (now (plan .entry))) (length (now (set .entry))) .refusal)
+    ensures { λ r. ⌜ (r ≡ writeResult (recordOf (now (plan .entry))) (length (now (set .entry))) .refusal)
         × (now (set .exit) ≡ written (recordOf (now (plan .entry))) (now (set .entry)))
-        × (now (size .exit) ≡ writeAnswer (recordOf (now (plan .entry))) (length (now (set .entry))) .length) ⌝ }
+        × (now (size .exit) ≡ writeResult (recordOf (now (plan .entry))) (length (now (set .entry))) .length) ⌝ }
 {
     let answer = write_record(plan, set);
     *size = answer.length as u16;

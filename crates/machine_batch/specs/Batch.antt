@@ -6,7 +6,6 @@ use lib.ListN.{length}
 use lib.Dec.{ltb}
 use Rattle.base_lists.specs.Bounded.{ifElse}
 use Rattle.set_plan.specs.declared.Plan.{Plan}
-use Rattle.set_plan.specs.Rules.{planRefusal}
 use Rattle.machine_master.specs.declared.Master.{Master}
 use Rattle.machine_master.specs.declared.Reply.{Reply}
 use Rattle.machine_master.specs.Step.{judgedStep, masterStep}

@@ -26,7 +26,7 @@ use Rattle.machine_master.specs.Range.{inRange}
 use Rattle.machine_master.specs.Ticks.{aged, tickBy}
 use Rattle.machine_master.specs.Waking.{wakeUpBy, permissionStep}
 use Rattle.machine_master.specs.Sleeping.{notHeld, sleepAskBy, sendResultBy}
-use Rattle.machine_master.specs.Answers.{actOnBits, counted, rowStep, answerBy}
+use Rattle.machine_master.specs.Answers.{actOnBits, countStored, rowStep, answerBy}
 use Rattle.machine_master.specs.Step.{eventRight, act, masterStep}
 
 pub call-back-state : (m : Master) → callBack m .state ≡ m .state
@@ -107,7 +107,7 @@ module _ (m : Master) where
       (λ y. by-test (Clocked m) (eqb (a .result) 0)
       (λ z. by-test (Clocked m) (accepts row (a .length))
       (λ w. by-test (Clocked m) (isCounted row)
-      (λ c. still _ refl refl (bits-state (row .publisher) (a .permission) (a .wake) (counted (row .reqid) (a .count) m)))
+      (λ c. still _ refl refl (bits-state (row .publisher) (a .permission) (a .wake) (countStored (row .reqid) (a .count) m)))
       (λ c. still _ refl refl (bits-state (row .publisher) (a .permission) (a .wake) m)))
       (λ w. still _ refl refl (call-back-state (letGo (row .publisher) (withCause _ (row .publisher) m)))))
       (λ z. still _ refl refl (call-back-state (letGo (row .publisher) (withCause _ (row .publisher) m)))))

@@ -38,7 +38,7 @@ use Rattle.machine_master.specs.Range.{isOpen, isAwake, phaseRight, dela
 use Rattle.machine_master.specs.Ticks.{older, olderAt, allOlder, agedOut, agedOutAt, allAgedOut, aged, tickBy}
 use Rattle.machine_master.specs.Waking.{wakeUpBy, permissionStep}
 use Rattle.machine_master.specs.Sleeping.{notHeld, sleepAskBy, sendResultBy}
-use Rattle.machine_master.specs.Answers.{actOnBits, counted, wholeStep, rowStep, answerBy}
+use Rattle.machine_master.specs.Answers.{actOnBits, countStored, wholeStep, rowStep, answerBy}
 use Rattle.machine_master.specs.Step.{eventRight, act, masterStep}
 use Rattle.machine_master.proofs.Awake.{Awake, step-awake}
 
@@ -364,7 +364,7 @@ module _ (nodecount : ℕ) (t : Times) (a : TimesFit t) where
   whole-fits : (row : Row) (x : Answer) (m : Master) → isNormal (m .state) ≡ true → row .publisher < nodecount → x .count < 4 → Fits nodecount t m → Kept (wholeStep row x m)
   whole-fits row x m on l c f =
       by-test Kept (isCounted row)
-      (λ y. bits-fits (row .publisher) (x .permission) (x .wake) (counted (row .reqid) (x .count) m) on l
+      (λ y. bits-fits (row .publisher) (x .permission) (x .wake) (countStored (row .reqid) (x .count) m) on l
       (record { phase = f .phase; delay = f .delay; counts = counts-set 5 (m .counts) (row .reqid) (x .count) (f .counts) (omega arith); holds = f .holds; causes = f .causes }))
       (λ y. bits-fits (row .publisher) (x .permission) (x .wake) m on l f)
 

@@ -23,7 +23,7 @@ use Rattle.machine_master.specs.Range.{inRange}
 use Rattle.machine_master.specs.Ticks.{aged, tickBy}
 use Rattle.machine_master.specs.Waking.{wakeUpBy, permissionStep}
 use Rattle.machine_master.specs.Sleeping.{notHeld, sleepAskBy, sendResultBy}
-use Rattle.machine_master.specs.Answers.{actOnBits, counted, rowStep, answerBy}
+use Rattle.machine_master.specs.Answers.{actOnBits, countStored, rowStep, answerBy}
 use Rattle.machine_master.specs.Step.{eventRight, act, masterStep}
 
 -- a master but for its causes
@@ -123,7 +123,7 @@ module _ (m : Master) where
       (both SameButCauses (eqb (a .result) 0)
       (both SameButCauses (accepts row (a .length))
       (both SameButCauses (isCounted row)
-      (alike _ _ (bits-alike (row .publisher) (a .permission) (a .wake) (counted (row .reqid) (a .count) m) (counted (row .reqid) (a .count) (bare m)) refl) refl refl refl refl)
+      (alike _ _ (bits-alike (row .publisher) (a .permission) (a .wake) (countStored (row .reqid) (a .count) m) (countStored (row .reqid) (a .count) (bare m)) refl) refl refl refl refl)
       (alike _ _ (bits-alike (row .publisher) (a .permission) (a .wake) m (bare m) refl) refl refl refl refl))
       (alike _ _ (let-go-alike _ (row .publisher) m (bare m) refl) refl refl refl refl))
       (alike _ _ (let-go-alike _ (row .publisher) m (bare m) refl) refl refl refl refl))

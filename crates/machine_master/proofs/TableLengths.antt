@@ -28,7 +28,7 @@ use Rattle.machine_master.specs.Range.{inRange}
 use Rattle.machine_master.specs.Ticks.{allOlder, olderAt, agedOutAt, allAgedOut, aged, tickBy}
 use Rattle.machine_master.specs.Waking.{wakeUpBy, permissionStep}
 use Rattle.machine_master.specs.Sleeping.{notHeld, sleepAskBy, sendResultBy}
-use Rattle.machine_master.specs.Answers.{actOnBits, counted, rowStep, answerBy}
+use Rattle.machine_master.specs.Answers.{actOnBits, countStored, rowStep, answerBy}
 use Rattle.machine_master.specs.Step.{eventRight, act, masterStep}
 
 pub record Placed (m : Master) : Type 0 where
@@ -121,7 +121,7 @@ module _ (m : Master) (h : Placed m) where
       (λ y. by-test After (eqb (a .result) 0)
       (λ z. by-test After (accepts row (a .length))
       (λ w. by-test After (isCounted row)
-      (λ c. bits-placed (row .publisher) (a .permission) (a .wake) (counted (row .reqid) (a .count) m) (record { holds = h .holds; causes = h .causes; counts = length-set (m .counts) (row .reqid) _ ∙ h .counts }))
+      (λ c. bits-placed (row .publisher) (a .permission) (a .wake) (countStored (row .reqid) (a .count) m) (record { holds = h .holds; causes = h .causes; counts = length-set (m .counts) (row .reqid) _ ∙ h .counts }))
       (λ c. bits-placed (row .publisher) (a .permission) (a .wake) m h))
       (λ w. damaged-placed _ (row .publisher)))
       (λ z. damaged-placed _ (row .publisher)))

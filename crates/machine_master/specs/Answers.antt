@@ -36,8 +36,8 @@ actOnBits publisher permission wake m =
     (callBack (letGo publisher (withCause causeRefused publisher m))))
 
 -- "and store it"
-abbrev pub counted : ℕ → ℕ → Master → Master
-counted reqid count m = withCounts (set (m .counts) reqid count) m
+abbrev pub countStored : ℕ → ℕ → Master → Master
+countStored reqid count m = withCounts (set (m .counts) reqid count) m
 
 abbrev pub reports : ℕ → Master → Reply
 reports lost m = record { master = m; command = Command.Nothing; refusal = 0; node = 0; lost = lost }
@@ -46,7 +46,7 @@ reports lost m = record { master = m; command = Command.Nothing; refusal = 0; no
 abbrev pub wholeStep : Row → Answer → Master → Reply
 wholeStep row a m =
     ifElse (isCounted row)
-    (reports (lostAfter (getD (m .counts) (row .reqid) 0) (a .count)) (actOnBits (row .publisher) (a .permission) (a .wake) (counted (row .reqid) (a .count) m)))
+    (reports (lostAfter (getD (m .counts) (row .reqid) 0) (a .count)) (actOnBits (row .publisher) (a .permission) (a .wake) (countStored (row .reqid) (a .count) m)))
     (reports 0 (actOnBits (row .publisher) (a .permission) (a .wake) m))
 
 -- "judged 12, 13, 14": 12 for "a master's row in an answer"

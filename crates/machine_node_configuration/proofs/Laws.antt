@@ -10,11 +10,11 @@ use borrow.Author.Tests.{eqb-true, le-ltb}
 use Rattle.base_lists.proofs.AllAny.{and-l, and-r}
 use Rattle.base_lists.proofs.Choices.{by-test, no-way}
 use Rattle.base_bytes.specs.Bytes.{byte, number}
-use Rattle.set_plan.specs.Rules.{inRange}
+use Rattle.set_plan.specs.Rules.{between}
 use Rattle.machine_node_configuration.specs.declared.Identity.{Identity}
 use Rattle.machine_node_configuration.specs.declared.Reply.{Reply}
 use Rattle.machine_node_configuration.specs.Requests.{assignNodeAddress, nodeProductIdentification, nodeSerialNumberIdentification, isAssign, newAddress, isRead, wrongLength, isKnown, requestRefusal, isFor, takesAssign}
-use Rattle.machine_node_configuration.specs.Responses.{answerTo, addressAfter, configureRefusal, configured, answered}
+use Rattle.machine_node_configuration.specs.Responses.{responseTo, addressAfter, configureRefusal, configured, responded}
 
 -- an assign is no read, and is refused as it stands exactly where its length is wrong
 module _ (s : List ℕ) (e : isAssign s ≡ true) where
@@ -35,15 +35,15 @@ module _ (s : List ℕ) (e : isAssign s ≡ true) where
   refused n = rw (e, writes, n, or-true (eqb (length s) 0))
 
 module _ (i : Identity) (address : ℕ) (s : List ℕ) where
-  taken-in-range : takesAssign i s ≡ true → inRange 1 125 (newAddress s) ≡ true
+  taken-in-range : takesAssign i s ≡ true → between 1 125 (newAddress s) ≡ true
   unfolding takesAssign
   taken-in-range e = and-r (isAssign s && isFor i s) _ e
 
   -- an address that was in 1 to 125 stays so
-  pub stays-in-range : (room : ℕ) → inRange 1 125 address ≡ true → inRange 1 125 (configured i address s room .address) ≡ true
+  pub stays-in-range : (room : ℕ) → between 1 125 address ≡ true → between 1 125 (configured i address s room .address) ≡ true
   unfolding configured addressAfter
-  stays-in-range room h = by-test (λ (r : Reply). inRange 1 125 (r .address) ≡ true) (eqb (configureRefusal i s room) 0)
-      (λ _. by-test (λ a. inRange 1 125 a ≡ true) (takesAssign i s) taken-in-range (λ _. h))
+  stays-in-range room h = by-test (λ (r : Reply). between 1 125 (r .address) ≡ true) (eqb (configureRefusal i s room) 0)
+      (λ _. by-test (λ a. between 1 125 a ≡ true) (takesAssign i s) taken-in-range (λ _. h))
       (λ _. h)
 
   -- only an assign, of 8 bytes, changes the address
@@ -56,9 +56,9 @@ module _ (i : Identity) (address : ℕ) (s : List ℕ) where
       go true u true v = no-way (let z : true ≡ false = rw (u, v) at n in sym z)
       go true u false v = rw (refused s u v)
 
-  unanswered : isAssign s ≡ true → takesAssign i s ≡ false → answerTo i s ≡ []
-  unfolding answerTo
-  unanswered e n = rw (n, no-read s e nodeProductIdentification, no-read s e nodeSerialNumberIdentification)
+  no-response : isAssign s ≡ true → takesAssign i s ≡ false → responseTo i s ≡ []
+  unfolding responseTo
+  no-response e n = rw (n, no-read s e nodeProductIdentification, no-read s e nodeSerialNumberIdentification)
 
   -- an assign that is not taken meets silence, in any buffer
   pub silent : (room : ℕ) → isAssign s ≡ true → length s ≡ 8 → takesAssign i s ≡ false
@@ -66,11 +66,11 @@ module _ (i : Identity) (address : ℕ) (s : List ℕ) where
   unfolding configured configureRefusal addressAfter
   silent room e l n =
       let fits : ltb room 0 ≡ false = le-ltb room 0 (omega arith) in
-      rw (not-refused s e l, unanswered e n, fits, n)
+      rw (not-refused s e l, no-response e n, fits, n)
 
-  -- no answer starts with 7F hex, to an assign or to a read
-  pub never-negative : byte (answerTo i s) 0 ≡ 0x7f → ⊥
-  unfolding answerTo
+  -- no response starts with 7F hex, to an assign or to a read
+  pub never-negative : byte (responseTo i s) 0 ≡ 0x7f → ⊥
+  unfolding responseTo
   never-negative =
       by-test Positive (takesAssign i s) (λ _ z. omega arith)
       (λ _. by-test Positive (isRead nodeProductIdentification s) (λ _ z. omega arith)
@@ -79,29 +79,29 @@ module _ (i : Identity) (address : ℕ) (s : List ℕ) where
       Positive : List ℕ → Type 0
       Positive a = byte a 0 ≡ 0x7f → ⊥
 
-  -- a refusal has no answer
-  pub refused-unanswered : (room : ℕ) → (configured i address s room .refusal ≡ 0 → ⊥) → configured i address s room .length ≡ 0
+  -- a refusal has no response
+  pub refused-silent : (room : ℕ) → (configured i address s room .refusal ≡ 0 → ⊥) → configured i address s room .length ≡ 0
   unfolding configured
-  refused-unanswered room =
+  refused-silent room =
       by-test (λ (r : Reply). (r .refusal ≡ 0 → ⊥) → r .length ≡ 0) (eqb (configureRefusal i s room) 0) (λ _ n. absurd (n refl)) (λ _ _. refl)
 
-  -- without an answer the address stays
-  unassigned : (b : Bool) → takesAssign i s ≡ b → length (answerTo i s) ≡ 0 → addressAfter i address s ≡ address
-  unfolding answerTo addressAfter
+  -- without a response the address stays
+  unassigned : (b : Bool) → takesAssign i s ≡ b → length (responseTo i s) ≡ 0 → addressAfter i address s ≡ address
+  unfolding responseTo addressAfter
   unassigned true u = rw u (λ e. absurd (omega arith))
   unassigned false u = rw u (λ _. refl)
 
   -- refused or met by silence: address and buffer stay
-  pub no-answer-keeps : (buffer : List ℕ) → configured i address s (length buffer) .length ≡ 0
-      → (configured i address s (length buffer) .address ≡ address) × (answered i s buffer ≡ buffer)
-  unfolding configured answered
-  no-answer-keeps buffer = go (eqb (configureRefusal i s (length buffer)) 0) refl
+  pub silence-keeps : (buffer : List ℕ) → configured i address s (length buffer) .length ≡ 0
+      → (configured i address s (length buffer) .address ≡ address) × (responded i s buffer ≡ buffer)
+  unfolding configured responded
+  silence-keeps buffer = go (eqb (configureRefusal i s (length buffer)) 0) refl
     where
       empty : (a : List ℕ) → length a ≡ 0 → a ++ drop (length a) buffer ≡ buffer
       empty [] e = refl
       empty (c ∷ a) e = absurd (omega arith)
 
       go : (b : Bool) → eqb (configureRefusal i s (length buffer)) 0 ≡ b
-          → configured i address s (length buffer) .length ≡ 0 → (configured i address s (length buffer) .address ≡ address) × (answered i s buffer ≡ buffer)
-      go true u = rw u (λ none. (unassigned (takesAssign i s) refl none, empty (answerTo i s) none))
+          → configured i address s (length buffer) .length ≡ 0 → (configured i address s (length buffer) .address ≡ address) × (responded i s buffer ≡ buffer)
+      go true u = rw u (λ none. (unassigned (takesAssign i s) refl none, empty (responseTo i s) none))
       go false u = rw u (λ _. (refl, refl))

@@ -6,7 +6,7 @@ use lib.ListN.{length}
 use lib.Dec.{eqb}
 use Rattle.base_lists.specs.Bounded.{ifElse}
 use Rattle.base_bytes.specs.Bytes.{byte, number}
-use Rattle.set_plan.specs.Rules.{inRange}
+use Rattle.set_plan.specs.Rules.{between}
 use Rattle.machine_node_configuration.specs.declared.Identity.{Identity}
 
 -- "Identifier values come from Table A.1"
@@ -48,4 +48,4 @@ isFor i s = eqb (number s 3) (i .supplier) && eqb (number s 5) (i .function)
 
 -- an assign that the node takes: ".. or which is offered an address outside 1 to 125, stays silent"
 unfoldable pub takesAssign : Identity → List ℕ → Bool
-takesAssign i s = isAssign s && isFor i s && inRange 1 125 (newAddress s)
+takesAssign i s = isAssign s && isFor i s && between 1 125 (newAddress s)

@@ -1,11 +1,11 @@
--- What a node answers to a request of the node configuration family, and which address it has then.
+-- What a node responds to a request of the node configuration family, and which address it has then.
 use Prim.Native.Nat.{ℕ, _-_}
 use mathlib.Core.List.{List, [], _∷_, _++_}
 use lib.ListN.{length, drop, replicate}
 use lib.Dec.{ltb, eqb}
 use Rattle.base_lists.specs.Bounded.{ifElse}
 use Rattle.base_bytes.specs.Bytes.{twoBytes, fourBytes}
-use Rattle.machine_node_configuration.specs.declared.Answer.{Answer}
+use Rattle.machine_node_configuration.specs.declared.Response.{Response}
 use Rattle.machine_node_configuration.specs.declared.Identity.{Identity}
 use Rattle.machine_node_configuration.specs.declared.Reply.{Reply}
 use Rattle.machine_node_configuration.specs.Requests.{nodeProductIdentification, assignNodeAddress, nodeSerialNumberIdentification, newAddress, isRead, requestRefusal, takesAssign}
@@ -22,9 +22,9 @@ productIdentification i = 0x62 ∷ twoBytes nodeProductIdentification ++ twoByte
 abbrev pub serialNumber : Identity → List ℕ
 serialNumber i = 0x62 ∷ twoBytes nodeSerialNumberIdentification ++ fourBytes (i .serial)
 
--- each request that is answered, with its answer; none for silence
-unfoldable pub answerTo : Identity → List ℕ → List ℕ
-answerTo i s =
+-- each request that has a response; none for silence
+unfoldable pub responseTo : Identity → List ℕ → List ℕ
+responseTo i s =
     ifElse (takesAssign i s) assigned
     (ifElse (isRead nodeProductIdentification s) (productIdentification i)
     (ifElse (isRead nodeSerialNumberIdentification s) (serialNumber i)
@@ -32,7 +32,7 @@ answerTo i s =
 
 -- "Refusals: 23 ..; 24 ..; 10, answer too long for its buffer; 23, 24, 10"; silence fits every buffer
 unfoldable pub configureRefusal : Identity → List ℕ → ℕ → ℕ
-configureRefusal i s room = ifElse (eqb (requestRefusal s) 0) (ifElse (ltb room (length (answerTo i s))) 10 0) (requestRefusal s)
+configureRefusal i s room = ifElse (eqb (requestRefusal s) 0) (ifElse (ltb room (length (responseTo i s))) 10 0) (requestRefusal s)
 
 -- the address past a request that is not refused
 unfoldable pub addressAfter : Identity → ℕ → List ℕ → ℕ
@@ -42,17 +42,17 @@ addressAfter i address s = ifElse (takesAssign i s) (newAddress s) address
 abbrev pub refuse : ℕ → ℕ → Reply
 refuse address number = record { refusal = number; length = 0; address = address }
 
--- the reply: refusal, length of the answer, address
+-- the reply: refusal, length of the response, address
 unfoldable pub configured : Identity → ℕ → List ℕ → ℕ → Reply
 configured i address s room =
     ifElse (eqb (configureRefusal i s room) 0)
-    (record { refusal = 0; length = length (answerTo i s); address = addressAfter i address s })
+    (record { refusal = 0; length = length (responseTo i s); address = addressAfter i address s })
     (refuse address (configureRefusal i s room))
 
 -- the buffer at exit: "bytes past what is written keep their content"
-unfoldable pub answered : Identity → List ℕ → List ℕ → List ℕ
-answered i s buffer = ifElse (eqb (configureRefusal i s (length buffer)) 0) (answerTo i s ++ drop (length (answerTo i s)) buffer) buffer
+unfoldable pub responded : Identity → List ℕ → List ℕ → List ℕ
+responded i s buffer = ifElse (eqb (configureRefusal i s (length buffer)) 0) (responseTo i s ++ drop (length (responseTo i s)) buffer) buffer
 
--- an answer in the 8 bytes of the longest, the rest 0
-abbrev pub inEight : List ℕ → Answer
+-- a response in the 8 bytes of the longest, the rest 0
+abbrev pub inEight : List ℕ → Response
 inEight bytes = record { bytes = bytes ++ replicate (8 - length bytes) 0; length = length bytes }

@@ -2,7 +2,7 @@
 // by no machine, or reads the identity.
 ghost use mathlib.Core.Path.{_≡_};
 ghost use lib.ListN.{length};
-ghost use Rattle.machine_node_configuration.specs.Responses.{refuse, configured, answered};
+ghost use Rattle.machine_node_configuration.specs.Responses.{refuse, configured, responded};
 ghost use Rattle.machine_node_configuration.specs.Identity.{identityOf};
 use crate::offsets::FUNCTION_AT;
 use crate::offsets::SERIAL_AT;
@@ -29,14 +29,14 @@ pub struct Identity {
 
 pub struct Reply {
     pub refusal: u8,
-    // of the answer, 0 for silence and refusals
+    // of the response, 0 for silence and refusals
     pub length: u8,
     // after the request
     pub address: u8,
 }
 
-// An answer in the 8 bytes of the longest, the rest 0.
-struct Answer {
+// A response in the 8 bytes of the longest, the rest 0.
+struct Response {
     bytes: [u8; 8],
     length: u8,
 }
@@ -63,22 +63,22 @@ fn refuse(address: u8, refusal: u8) -> Reply
     }
 }
 
-// Answers a request at the front of a buffer. Refusals and silence leave address and buffer as they were.
-pub fn configure(identity: Identity, address: u8, request: &[u8], answer: &mut [u8]) -> Reply
-    ensures { λ r. ⌜ (r ≡ configured identity address (now (request .entry)) (length (now (answer .entry))))
-        × (now (answer .exit) ≡ answered identity (now (request .entry)) (now (answer .entry))) ⌝ }
+// Responds to a request at the front of a buffer. Refusals and silence leave address and buffer as they were.
+pub fn configure(identity: Identity, address: u8, request: &[u8], response: &mut [u8]) -> Reply
+    ensures { λ r. ⌜ (r ≡ configured identity address (now (request .entry)) (length (now (response .entry))))
+        × (now (response .exit) ≡ responded identity (now (request .entry)) (now (response .entry))) ⌝ }
 {
     let refusal = requests::request_refusal(request);
     if refusal != 0 {
         return refuse(address, refusal);
     }
-    let given = responses::answer_to(identity, request);
+    let given = responses::response_to(identity, request);
     let bytes = given.bytes;
     let length = given.length as usize;
-    if answer.len() < length {
+    if response.len() < length {
         return refuse(address, 10);
     }
-    put(answer, 0, &bytes[..length]);
+    put(response, 0, &bytes[..length]);
     Reply {
         refusal: 0,
         length: given.length,

@@ -1,15 +1,15 @@
-// What a node answers, and its address past a request.
+// What a node responds, and its address past a request.
 ghost use mathlib.Core.Path.{_≡_};
-ghost use Rattle.machine_node_configuration.specs.Responses.{productIdentification, serialNumber, answerTo, addressAfter, inEight};
-use crate::Answer;
+ghost use Rattle.machine_node_configuration.specs.Responses.{productIdentification, serialNumber, responseTo, addressAfter, inEight};
 use crate::Identity;
+use crate::Response;
 use crate::requests;
 use base_bytes::byte_at;
 
-fn product_identification(identity: Identity) -> Answer
+fn product_identification(identity: Identity) -> Response
     ensures { λ r. ⌜ r ≡ inEight (productIdentification identity) ⌝ }
 {
-    Answer {
+    Response {
         bytes: [
             0x62,
             0xff,
@@ -24,12 +24,12 @@ fn product_identification(identity: Identity) -> Answer
     }
 }
 
-fn serial_number(identity: Identity) -> Answer
+fn serial_number(identity: Identity) -> Response
     ensures { λ r. ⌜ r ≡ inEight (serialNumber identity) ⌝ }
 {
     let high = identity.serial / 65536;
     let low = identity.serial % 65536;
-    Answer {
+    Response {
         bytes: [
             0x62,
             0xf1,
@@ -45,11 +45,11 @@ fn serial_number(identity: Identity) -> Answer
 }
 
 // No bytes for silence.
-pub(crate) fn answer_to(identity: Identity, request: &[u8]) -> Answer
-    ensures { λ r. ⌜ r ≡ inEight (answerTo identity (now (request .entry))) ⌝ }
+pub(crate) fn response_to(identity: Identity, request: &[u8]) -> Response
+    ensures { λ r. ⌜ r ≡ inEight (responseTo identity (now (request .entry))) ⌝ }
 {
     if requests::takes_assign(identity, request) {
-        return Answer {
+        return Response {
             bytes: [0x6e, 0xff, 0x07, 0, 0, 0, 0, 0],
             length: 3,
         };
@@ -60,7 +60,7 @@ pub(crate) fn answer_to(identity: Identity, request: &[u8]) -> Answer
     if requests::is_read(requests::NODE_SERIAL_NUMBER_IDENTIFICATION, request) {
         return serial_number(identity);
     }
-    Answer {
+    Response {
         bytes: [0, 0, 0, 0, 0, 0, 0, 0],
         length: 0,
     }

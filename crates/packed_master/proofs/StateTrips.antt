@@ -26,7 +26,7 @@ use Rattle.machine_master.specs.declared.Hold.{Hold}
 use Rattle.machine_master.specs.declared.Master.{Master}
 use Rattle.machine_master.specs.Changes.{noHold, noCauses, noCounts, powerOn}
 use Rattle.machine_master.specs.Range.{inRange}
-use Rattle.packed_master.specs.States.{phaseByte, phaseOf, masterHead, holdBytes, holdByteAt, holdsBytes, holdOf, holdsOf, causeByteAt, causesOf, masterBytes, flagAt, isMaster, masterFrom, noMaster, masterOf}
+use Rattle.packed_master.specs.States.{phaseByte, phaseOf, masterHead, holdBytes, holdByteAt, holdsBytes, holdOf, holdsOf, causeByteAt, causesOf, masterBytes, flagAt, isMaster, masterFrom, masterOutOfRange, masterOf}
 use Rattle.packed_master.proofs.Permissions.{hold-three}
 
 phase-back : (x : Phase) → phaseOf (phaseByte x) ≡ x
@@ -47,17 +47,17 @@ unfolding isMaster
 other-length s n = rw (ne-eqb (length s) 201 n)
 
 -- "bytes that are no state give 11": what they are taken for is out of range under every plan
-pub none-in-range : (sleeps : Bool) (nodecount : ℕ) (t : Times) → inRange sleeps nodecount t noMaster ≡ false
+pub never-in-range : (sleeps : Bool) (nodecount : ℕ) (t : Times) → inRange sleeps nodecount t masterOutOfRange ≡ false
 unfolding inRange
-none-in-range true nodecount t = refl
-none-in-range false nodecount t = refl
+never-in-range true nodecount t = refl
+never-in-range false nodecount t = refl
 
 state-is : (sleeps : Bool) (nodecount : ℕ) (t : Times) (s : List ℕ) → inRange sleeps nodecount t (masterOf s) ≡ true → isMaster s ≡ true
 state-is sleeps nodecount t s e = go (isMaster s) refl
   where
     go : (b : Bool) → isMaster s ≡ b → isMaster s ≡ true
     go true h = h
-    go false h = no-way (sym (none-in-range sleeps nodecount t) ∙ (rw h at e))
+    go false h = no-way (sym (never-in-range sleeps nodecount t) ∙ (rw h at e))
 
 pub holds-long : (holds : List Hold) → length (holdsBytes holds) ≡ 48
 unfolding holdsBytes

@@ -72,9 +72,9 @@ masterFrom s =
     record { state = stateOf (byte s stateAt); phase = phaseOf (byte s phaseAt); permission = flagOf (byte s permissionAt); holds = holdsOf s; causes = causesOf s; counts = tableAt s countsAt; delay = number s delayAt; ticks = longNumber s ticksAt }
 
 -- a master out of range under every plan: "a delay below C in Standby, below D in Closing, else 0"
-abbrev pub noMaster : Master
-noMaster = withDelay 1 (powerOn true)
+abbrev pub masterOutOfRange : Master
+masterOutOfRange = withDelay 1 (powerOn true)
 
 -- the master of bytes; of bytes that are no state one that each step refuses as 11
 abbrev pub masterOf : List ℕ → Master
-masterOf s = ifElse (isMaster s) (masterFrom s) noMaster
+masterOf s = ifElse (isMaster s) (masterFrom s) masterOutOfRange

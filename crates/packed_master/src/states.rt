@@ -5,7 +5,7 @@ ghost use lib.Seq.{sets};
 ghost use Rattle.base_lists.specs.Bounded.{allTo};
 ghost use Rattle.set_plan.specs.Limits.{maxNodes};
 ghost use Rattle.machine_master.specs.Changes.{powerOn};
-ghost use Rattle.packed_master.specs.States.{phaseByte, phaseOf, masterHead, holdsBytes, holdOf, holdsOf, causesOf, masterBytes, flagAt, isMaster, masterFrom, noMaster, masterOf};
+ghost use Rattle.packed_master.specs.States.{phaseByte, phaseOf, masterHead, holdsBytes, holdOf, holdsOf, causesOf, masterBytes, flagAt, isMaster, masterFrom, masterOutOfRange, masterOf};
 use crate::offsets::CAUSES_AT;
 use crate::offsets::COUNTS_AT;
 use crate::offsets::DELAY_AT;
@@ -199,8 +199,8 @@ fn master_from(bytes: &[u8]) -> Master
 }
 
 // Out of range under every plan.
-fn no_master() -> Master
-    ensures { λ r. ⌜ r ≡ noMaster ⌝ }
+fn master_out_of_range() -> Master
+    ensures { λ r. ⌜ r ≡ masterOutOfRange ⌝ }
 {
     Master {
         delay: 1,
@@ -214,11 +214,11 @@ pub fn master_of(bytes: &[u8]) -> Master
 {
     // A known length spares the tests of each byte.
     if bytes.len() != LENGTH {
-        return no_master();
+        return master_out_of_range();
     }
     if is_master(bytes) {
         master_from(bytes)
     } else {
-        no_master()
+        master_out_of_range()
     }
 }

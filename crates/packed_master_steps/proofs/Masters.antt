@@ -22,12 +22,12 @@ use Rattle.machine_master.specs.declared.Master.{Master}
 use Rattle.machine_state.specs.declared.State.{State}
 use Rattle.machine_state.specs.State.{isNormal}
 use Rattle.machine_master.specs.Changes.{noHold, causeNew, causeAged, withHolds, withCauses, withCause, hold}
-use Rattle.machine_master.specs.Answers.{lostAfter, counted}
+use Rattle.machine_master.specs.Answers.{lostAfter, countStored}
 use Rattle.machine_master.specs.Range.{holdRightAt, holdsRight}
 use Rattle.machine_master.specs.Ticks.{older, olderAt, allOlder, agedOutAt, allAgedOut, aged}
 use Rattle.packed_master.specs.States.{masterHead, holdBytes, holdByteAt, holdsBytes, holdsOf, causesOf, masterBytes, masterFrom}
 use Rattle.packed_master.proofs.StateTrips.{master-back, holds-long, front-long}
-use Rattle.packed_master_steps.specs.InPlace.{isNormalAt, agedHolds, agedNodes, ticked, agedBytes, lostBefore, answerKept}
+use Rattle.packed_master_steps.specs.InPlace.{isNormalAt, agedHolds, agedNodes, tickNumberUp, agedBytes, lostBefore, answerKept}
 use Rattle.packed_master_steps.proofs.Parts.{sets-front, sets-back, sets-before, sets-past, sets-inside}
 
 -- a master's tables have their places
@@ -114,7 +114,7 @@ module _ (m : Master) (sized : Sized m) where
   put-hold k x h = put-in-holds m (holdBytes x) (3 * k) (omega (arith, h)) ∙ ap (λ (l : List ℕ). masterHead m ++ l ++ m .counts ++ m .causes) (hold-set (m .holds) k x (sized .holds) h)
 
   -- over that of a count
-  put-count : (reqid count : ℕ) → reqid < 128 → sets (masterBytes m) (57 + reqid) (count ∷ []) ≡ masterBytes (counted reqid count m)
+  put-count : (reqid count : ℕ) → reqid < 128 → sets (masterBytes m) (57 + reqid) (count ∷ []) ≡ masterBytes (countStored reqid count m)
   unfolding masterBytes
   put-count reqid count h =
       let z : 57 + reqid ≡ length (masterHead m ++ holdsBytes (m .holds)) + reqid = omega (arith, front-long m) in
@@ -170,8 +170,8 @@ older-sized : (m : Master) (window : ℕ) → Sized m → Sized (withHolds (allO
 unfolding allOlder
 older-sized m window sized = record { holds = length-tab 16 (olderAt window (m .holds)); counts = sized .counts; causes = sized .causes }
 
-counted-sized : (m : Master) (reqid count : ℕ) → Sized m → Sized (counted reqid count m)
-counted-sized m reqid count sized = record { holds = sized .holds; counts = length-set (m .counts) reqid count ∙ sized .counts; causes = sized .causes }
+count-stored-sized : (m : Master) (reqid count : ℕ) → Sized m → Sized (countStored reqid count m)
+count-stored-sized m reqid count sized = record { holds = sized .holds; counts = length-set (m .counts) reqid count ∙ sized .counts; causes = sized .causes }
 
 pub aged-sized : (m : Master) (window : ℕ) → Sized m → Sized (aged window m)
 unfolding allOlder allAgedOut
@@ -217,14 +217,14 @@ aged-causes m n window normal sized right =
 
 -- "Tick, any state: tick number up by one; held ages up by one, and one above W is let go"
 pub aged-master : (m : Master) (n window : ℕ) → Sized m → holdsRight n window (m .holds) ≡ true → agedBytes n window (masterBytes m) ≡ masterBytes (aged window m)
-unfolding ticked agedNodes masterBytes
+unfolding tickNumberUp agedNodes masterBytes
 aged-master m nodecount window sized right =
     let k = withHolds (allOlder window (m .holds)) m in
     let normal = isNormal (m .state) in
     let new = allAgedOut normal window (m .holds) (m .causes) in
     let n = withCauses new k in
     let z = aged-sized m window sized in
-    ap ticked
+    ap tickNumberUp
     (ap₂ (λ (l : List ℕ) (b : Bool). sets l 185 (take nodecount (allAgedOut b window (holdsOf (masterBytes m)) (causesOf (masterBytes m))))) (aged-holds m sized nodecount window right) (normal-at m)
     ∙ ap₂ (λ (h : List Hold) (c : List ℕ). sets (masterBytes k) 185 (take nodecount (allAgedOut normal window h c))) (ap (λ (x : Master). x .holds) (back m sized)) (ap (λ (x : Master). x .causes) (back m sized))
     ∙ put-in-causes k (older-sized m window sized) (take nodecount new) 0
@@ -234,7 +234,7 @@ aged-master m nodecount window sized right =
 
 -- what is kept of a whole answer that permits sleep
 abbrev pub keeps : Row → ℕ → Master → Master
-keeps row count m = hold (row .publisher) (withCause causeNew (row .publisher) (ifElse (isCounted row) (counted (row .reqid) count m) m))
+keeps row count m = hold (row .publisher) (withCause causeNew (row .publisher) (ifElse (isCounted row) (countStored (row .reqid) count m) m))
 
 module _ (m : Master) (row : Row) (count : ℕ) (sized : Sized m) (node : row .publisher < 16) (reqid : row .reqid < 128) where
   held-sized : (k : Master) → Sized k → Sized (hold (row .publisher) k)
@@ -252,14 +252,14 @@ module _ (m : Master) (row : Row) (count : ℕ) (sized : Sized m) (node : row .p
           ∙ put-cause (hold (row .publisher) n) (held-sized n s) (row .publisher) causeNew
 
       go : (b : Bool) → sets (sets (ifElse b (sets (masterBytes m) (57 + row .reqid) (count ∷ [])) (masterBytes m)) (9 + 3 * row .publisher) (holdBytes (record { held = true; age = 0 }))) (185 + row .publisher) (causeNew ∷ [])
-          ≡ masterBytes (hold (row .publisher) (withCause causeNew (row .publisher) (ifElse b (counted (row .reqid) count m) m)))
+          ≡ masterBytes (hold (row .publisher) (withCause causeNew (row .publisher) (ifElse b (countStored (row .reqid) count m) m)))
       go true =
           ap (λ (s : List ℕ). sets (sets s (9 + 3 * row .publisher) (holdBytes given)) (185 + row .publisher) (causeNew ∷ [])) (put-count m sized (row .reqid) count reqid)
-          ∙ then (counted (row .reqid) count m) (counted-sized m (row .reqid) count sized)
+          ∙ then (countStored (row .reqid) count m) (count-stored-sized m (row .reqid) count sized)
       go false = then m sized
 
   pub kept-sized : Sized (keeps row count m)
-  kept-sized = by-test (λ (k : Master). Sized (hold (row .publisher) (withCause causeNew (row .publisher) k))) (isCounted row) (λ e. held (counted-sized m (row .reqid) count sized)) (λ e. held sized)
+  kept-sized = by-test (λ (k : Master). Sized (hold (row .publisher) (withCause causeNew (row .publisher) k))) (isCounted row) (λ e. held (count-stored-sized m (row .reqid) count sized)) (λ e. held sized)
     where
       held : {k : Master} → Sized k → Sized (hold (row .publisher) (withCause causeNew (row .publisher) k))
       held {k} s =

@@ -29,14 +29,14 @@ use Rattle.machine_master.specs.declared.Event.{Event}
 use Rattle.machine_master.specs.declared.Master.{Master}
 use Rattle.machine_master.specs.Changes.{causeNew, withCause, hold, silent}
 use Rattle.machine_master.specs.Range.{inRange}
-use Rattle.machine_master.specs.Answers.{lostAfter, counted, reports, answerBy, answerStep}
+use Rattle.machine_master.specs.Answers.{lostAfter, countStored, reports, answerBy, answerStep}
 use Rattle.machine_master.specs.Ticks.{aged, tickBy}
 use Rattle.machine_master.specs.Step.{stepUnder}
 use Rattle.packed_master.specs.States.{phaseByte, masterBytes}
-use Rattle.packed_master_steps.specs.InPlace.{stays, isQuiet, isKept, accepting}
+use Rattle.packed_master_steps.specs.InPlace.{tickKeepsPhase, isQuiet, isKept, accepting}
 use Rattle.packed_master_steps.proofs.Masters.{keeps}
 
-quiet-by : (t : Times) (s : State) (phase : Phase) (n : Master) → stays (stateByte s) (phaseByte phase) ≡ true → tickBy t s phase n ≡ silent n
+quiet-by : (t : Times) (s : State) (phase : Phase) (n : Master) → tickKeepsPhase (stateByte s) (phaseByte phase) ≡ true → tickBy t s phase n ≡ silent n
 quiet-by t State.Sleep phase n e = refl
 quiet-by t State.Standby phase n e = no-way e
 quiet-by t State.Normal Phase.Open n e = refl
@@ -80,8 +80,8 @@ whole-answer m row a normal node whole long permits calm =
     ap (λ (s : State). answerBy s (Lookup.Found row) a m) normal ∙ rw (node, whole, long, permits, calm) (by-count (isCounted row))
   where
     by-count : (b : Bool)
-        → ifElse b (reports (lostAfter (getD (m .counts) (row .reqid) 0) (a .count)) (hold (row .publisher) (withCause causeNew (row .publisher) (counted (row .reqid) (a .count) m)))) (reports 0 (hold (row .publisher) (withCause causeNew (row .publisher) m)))
-        ≡ reports (ifElse b (lostAfter (getD (m .counts) (row .reqid) 0) (a .count)) 0) (hold (row .publisher) (withCause causeNew (row .publisher) (ifElse b (counted (row .reqid) (a .count) m) m)))
+        → ifElse b (reports (lostAfter (getD (m .counts) (row .reqid) 0) (a .count)) (hold (row .publisher) (withCause causeNew (row .publisher) (countStored (row .reqid) (a .count) m)))) (reports 0 (hold (row .publisher) (withCause causeNew (row .publisher) m)))
+        ≡ reports (ifElse b (lostAfter (getD (m .counts) (row .reqid) 0) (a .count)) 0) (hold (row .publisher) (withCause causeNew (row .publisher) (ifElse b (countStored (row .reqid) (a .count) m) m)))
     by-count true = refl
     by-count false = refl
 

@@ -27,11 +27,11 @@ abbrev pub isNormalAt : List ℕ → Bool
 isNormalAt s = eqb (byte s stateAt) 0
 
 -- a tick leaves state and phase in Sleep, and in Normal but in Closing
-abbrev pub stays : ℕ → ℕ → Bool
-stays state phase = eqb state 2 || (eqb state 0 && ltb phase 3)
+abbrev pub tickKeepsPhase : ℕ → ℕ → Bool
+tickKeepsPhase state phase = eqb state 2 || (eqb state 0 && ltb phase 3)
 
 abbrev pub isQuiet : List ℕ → Bool
-isQuiet s = stays (byte s stateAt) (byte s phaseAt)
+isQuiet s = tickKeepsPhase (byte s stateAt) (byte s phaseAt)
 
 -- "held ages up by one, and one above W is let go", of the first nodes: from N on none is held
 unfoldable pub agedHolds : ℕ → ℕ → List ℕ → List ℕ
@@ -51,11 +51,11 @@ unfoldable pub agedNodes : ℕ → ℕ → List ℕ → List ℕ
 agedNodes nodecount window s = sets (agedHolds nodecount window s) causesAt (take nodecount (allAgedOut (isNormalAt s) window (holdsOf s) (causesOf s)))
 
 -- "tick number up by one"
-unfoldable pub ticked : List ℕ → List ℕ
-ticked s = sets s ticksAt (fourBytes ((longNumber s ticksAt + 1) % 2 ^ 32))
+unfoldable pub tickNumberUp : List ℕ → List ℕ
+tickNumberUp s = sets s ticksAt (fourBytes ((longNumber s ticksAt + 1) % 2 ^ 32))
 
 abbrev pub agedBytes : ℕ → ℕ → List ℕ → List ℕ
-agedBytes nodecount window s = ticked (agedNodes nodecount window s)
+agedBytes nodecount window s = tickNumberUp (agedNodes nodecount window s)
 
 -- "Answer (Normal only)", undamaged, with permission bit 1 and wake bit 0
 abbrev pub isKept : List ℕ → Answer → Bool

@@ -9,7 +9,7 @@ ghost use Rattle.set_record.specs.Record.{recordOf};
 ghost use Rattle.machine_master.specs.declared.Event.{Event};
 ghost use Rattle.packed_master.specs.Offsets.{holdsAt};
 ghost use Rattle.packed_master.specs.States.{holdBytes};
-ghost use Rattle.packed_master_steps.specs.InPlace.{isQuiet, nodeAged, agedNodes, ticked, agedBytes, isKept, accepting, keptRow, lostBefore, countKept, answerKept, outcome, leaves};
+ghost use Rattle.packed_master_steps.specs.InPlace.{isQuiet, nodeAged, agedNodes, tickNumberUp, agedBytes, isKept, accepting, keptRow, lostBefore, countKept, answerKept, outcome, leaves};
 use base_bytes::byte_at;
 use base_bytes::long_number;
 use base_bytes::number_at;
@@ -85,7 +85,7 @@ fn age_nodes(state: &mut [u8], nodes: u8, window: u16)
 }
 
 fn next_tick(state: &mut [u8])
-    ensures { λ _. ⌜ now (state .exit) ≡ ticked (now (state .entry)) ⌝ }
+    ensures { λ _. ⌜ now (state .exit) ≡ tickNumberUp (now (state .entry)) ⌝ }
 {
     let ticks = long_number(number_at(state, TICKS_AT), number_at(state, TICKS_AT + 2));
     let next = std::num::wrapping_add_u32(ticks, 1);

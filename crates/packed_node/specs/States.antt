@@ -41,9 +41,9 @@ nodeFrom s =
     record { state = stateOf (byte s stateAt); permission = flagOf (byte s permissionAt); error = flagOf (byte s errorAt); wake = flagOf (byte s wakeAt); heard = flagOf (byte s heardAt); caller = flagOf (byte s callerAt); quiet = number s quietAt; delay = delayOf (byte s delayAt) (number s (delayAt + 1)); standby = longNumber s standbyAt; counts = tableAt s countsAt }
 
 -- a node out of range under every plan: "outside Standby .. count 0"
-abbrev pub noNode : Node
-noNode = withStandby 1 false (powerOn true)
+abbrev pub nodeOutOfRange : Node
+nodeOutOfRange = withStandby 1 false (powerOn true)
 
 -- the node of bytes; of bytes that are no state one that each step refuses as 11
 abbrev pub nodeOf : List ℕ → Node
-nodeOf s = ifElse (isNode s) (nodeFrom s) noNode
+nodeOf s = ifElse (isNode s) (nodeFrom s) nodeOutOfRange

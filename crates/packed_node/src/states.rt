@@ -2,7 +2,7 @@
 ghost use mathlib.Core.Path.{_≡_};
 ghost use lib.Seq.{sets};
 ghost use Rattle.machine_node.specs.Changes.{powerOn};
-ghost use Rattle.packed_node.specs.States.{delayBytes, delayOf, nodeHead, nodeBytes, isNode, nodeFrom, noNode, nodeOf};
+ghost use Rattle.packed_node.specs.States.{delayBytes, delayOf, nodeHead, nodeBytes, isNode, nodeFrom, nodeOutOfRange, nodeOf};
 use crate::offsets::CALLER_AT;
 use crate::offsets::COUNTS_AT;
 use crate::offsets::DELAY_AT;
@@ -129,8 +129,8 @@ fn node_from(bytes: &[u8]) -> Node
 }
 
 // Out of range under every plan.
-fn no_node() -> Node
-    ensures { λ r. ⌜ r ≡ noNode ⌝ }
+fn node_out_of_range() -> Node
+    ensures { λ r. ⌜ r ≡ nodeOutOfRange ⌝ }
 {
     Node {
         standby: 1,
@@ -145,6 +145,6 @@ pub fn node_of(bytes: &[u8]) -> Node
     if is_node(bytes) {
         node_from(bytes)
     } else {
-        no_node()
+        node_out_of_range()
     }
 }

@@ -3,22 +3,22 @@ use Prim.Native.String.{String}
 use mathlib.Core.Path.{_≡_, refl}
 use mathlib.Core.List.{List, [], _∷_, map}
 use Rattle.base_text.specs.Text.{ascii, same}
-use Rattle.program_arguments.specs.declared.Ask.{Ask}
-use Rattle.program_arguments.specs.Arguments.{asked, usageText}
+use Rattle.program_arguments.specs.declared.Invocation.{Invocation}
+use Rattle.program_arguments.specs.Arguments.{invocationOf, usageText}
 
-abbrev one : List String → List Ask
-one arguments = map (λ argument. asked 2 (ascii argument)) arguments
+abbrev one : List String → List Invocation
+one arguments = map (λ argument. invocationOf 2 (ascii argument)) arguments
 
-pub names : one ("t.set" ∷ "./-x" ∷ "--help.set" ∷ []) ≡ Ask.Named ∷ Ask.Named ∷ Ask.Usage ∷ []
+pub names : one ("t.set" ∷ "./-x" ∷ "--help.set" ∷ []) ≡ Invocation.Named ∷ Invocation.Named ∷ Invocation.Usage ∷ []
 unfolding same
 names = refl
 
-pub options : one ("--help" ∷ "--hel" ∷ "-h" ∷ "--" ∷ "-" ∷ "" ∷ []) ≡ Ask.Help ∷ Ask.Usage ∷ Ask.Usage ∷ Ask.Usage ∷ Ask.Usage ∷ Ask.Usage ∷ []
+pub options : one ("--help" ∷ "--hel" ∷ "-h" ∷ "--" ∷ "-" ∷ "" ∷ []) ≡ Invocation.Help ∷ Invocation.Usage ∷ Invocation.Usage ∷ Invocation.Usage ∷ Invocation.Usage ∷ Invocation.Usage ∷ []
 unfolding same
 options = refl
 
 -- none, and more than one
-pub counts : map (λ count. asked count (ascii "--help")) (0 ∷ 1 ∷ 3 ∷ []) ≡ Ask.Default ∷ Ask.Default ∷ Ask.Usage ∷ []
+pub counts : map (λ count. invocationOf count (ascii "--help")) (0 ∷ 1 ∷ 3 ∷ []) ≡ Invocation.Default ∷ Invocation.Default ∷ Invocation.Usage ∷ []
 unfolding same
 counts = refl
 

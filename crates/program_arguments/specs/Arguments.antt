@@ -6,19 +6,19 @@ use lib.ListN.{length}
 use Rattle.base_lists.specs.Bounded.{ifElse}
 use Rattle.base_bytes.specs.Bytes.{byte}
 use Rattle.base_text.specs.Text.{ascii, same}
-use Rattle.program_arguments.specs.declared.Ask.{Ask}
+use Rattle.program_arguments.specs.declared.Invocation.{Invocation}
 
 -- `-` is 45
-abbrev pub askedByOne : List ℕ → Ask
-askedByOne argument =
-    ifElse (same argument (ascii "--help")) Ask.Help
-    (ifElse (eqb (length argument) 0) Ask.Usage
-    (ifElse (eqb (byte argument 0) 45) Ask.Usage
-    Ask.Named))
+abbrev pub invocationByOne : List ℕ → Invocation
+invocationByOne argument =
+    ifElse (same argument (ascii "--help")) Invocation.Help
+    (ifElse (eqb (length argument) 0) Invocation.Usage
+    (ifElse (eqb (byte argument 0) 45) Invocation.Usage
+    Invocation.Named))
 
 -- the count has the program's own name in it
-abbrev pub asked : ℕ → List ℕ → Ask
-asked count argument = ifElse (ltb count 2) Ask.Default (ifElse (ltb 2 count) Ask.Usage (askedByOne argument))
+abbrev pub invocationOf : ℕ → List ℕ → Invocation
+invocationOf count argument = ifElse (ltb count 2) Invocation.Default (ifElse (ltb 2 count) Invocation.Usage (invocationByOne argument))
 
 unfoldable pub usageText : List ℕ → List ℕ
 usageText program = ascii "usage: " ++ program ++ ascii " [FILE]\n"

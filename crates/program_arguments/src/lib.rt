@@ -1,13 +1,13 @@
 // What a program's arguments ask for, and how it says what it takes.
 ghost use mathlib.Core.Path.{_≡_};
 ghost use Rattle.base_text.specs.Text.{Appended, Shown, Counts};
-ghost use Rattle.program_arguments.specs.Arguments.{askedByOne, asked, usageText, helpText};
+ghost use Rattle.program_arguments.specs.Arguments.{invocationByOne, invocationOf, usageText, helpText};
 use base_bytes::byte_at;
 use base_text::append;
 use base_text::below;
 use base_text::same;
 
-pub enum Ask {
+pub enum Invocation {
     // the set in plan.set
     Default,
     // the set in the file that the argument names
@@ -18,32 +18,32 @@ pub enum Ask {
 }
 
 // What one argument asks for. An empty one names no file, and what starts with `-` is an option: `./-` names such a file.
-fn asked_by_one(argument: &[u8]) -> Ask
-    ensures { λ r. ⌜ r ≡ askedByOne (now (argument .entry)) ⌝ }
+fn invocation_by_one(argument: &[u8]) -> Invocation
+    ensures { λ r. ⌜ r ≡ invocationByOne (now (argument .entry)) ⌝ }
 {
     if same(argument, b"--help") {
-        return Ask::Help;
+        return Invocation::Help;
     }
     if argument.len() == 0 {
-        return Ask::Usage;
+        return Invocation::Usage;
     }
     if byte_at(argument, 0) == 45 {
-        return Ask::Usage;
+        return Invocation::Usage;
     }
-    Ask::Named
+    Invocation::Named
 }
 
 // What the arguments ask for, of which the first is the program's own name and the second given.
-pub fn asked(count: usize, argument: &[u8]) -> Ask
-    ensures { λ r. ⌜ r ≡ asked count (now (argument .entry)) ⌝ }
+pub fn invocation_of(count: usize, argument: &[u8]) -> Invocation
+    ensures { λ r. ⌜ r ≡ invocationOf count (now (argument .entry)) ⌝ }
 {
     if count < 2 {
-        return Ask::Default;
+        return Invocation::Default;
     }
     if 2 < count {
-        return Ask::Usage;
+        return Invocation::Usage;
     }
-    asked_by_one(argument)
+    invocation_by_one(argument)
 }
 
 fn append_usage(buffer: &mut [u8], at: usize, program: &[u8]) -> usize

@@ -80,12 +80,12 @@ fn run(program: &[u8], file: i32, start: Drill) -> Turn {
 pub fn drill(program: &[u8], set: &[u8], file: i32) -> u8
     ensures { λ r. ⌜ r ≡ readSet (now (set .entry)) .refusal ⌝ }
 {
-    let answer = program_files::read_plan(program, set);
-    let plan = answer.plan;
-    if answer.refusal == 0 {
+    let result = program_files::read_plan(program, set);
+    let plan = result.plan;
+    if result.refusal == 0 {
         run(program, file, Drill::start(plan));
     }
-    answer.refusal
+    result.refusal
 }
 
 // One line more, by the master that the moves left.
@@ -110,10 +110,10 @@ fn run_and_explain(program: &[u8], file: i32, plan: Plan) {
 pub fn why(program: &[u8], set: &[u8], file: i32) -> u8
     ensures { λ r. ⌜ r ≡ readSet (now (set .entry)) .refusal ⌝ }
 {
-    let answer = program_files::read_plan(program, set);
-    let plan = answer.plan;
-    if answer.refusal == 0 {
+    let result = program_files::read_plan(program, set);
+    let plan = result.plan;
+    if result.refusal == 0 {
         run_and_explain(program, file, plan);
     }
-    answer.refusal
+    result.refusal
 }

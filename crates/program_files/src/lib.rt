@@ -12,9 +12,9 @@ use base_text::append_decimal;
 use base_text::below;
 use libc::STDERR_FILENO;
 use libc::STDOUT_FILENO;
-use program_arguments::Ask;
+use program_arguments::Invocation;
 use set_plan::Plan;
-use set_reader::ReadAnswer;
+use set_reader::ReadResult;
 
 // How many bytes were read, and whether none failed to be.
 pub struct FileRead {
@@ -39,7 +39,7 @@ fn fail(program: &[u8], what: &[u8]) {
     os::fail(&line[..length]);
 }
 
-// Prints a text if all before it was printed, and answers whether all is. So a write that fails is told once, and is the last.
+// Prints a text if all before it was printed, and tells whether all is. So a write that fails is told once, and is the last.
 pub fn print(program: &[u8], before: bool, text: &[u8]) -> bool
     ensures { λ r. ⌜ (before ≡ false → r ≡ false) ⌝ }
 {
@@ -143,12 +143,12 @@ pub fn read_set(program: &[u8], about: &[u8], set: &mut [u8]) -> FileRead
 {
     let mut room = io::buffer();
     let length = os::arg(1, &mut room);
-    let ask = program_arguments::asked(os::arg_count(), &room[..length]);
-    match ask {
-        Ask::Default => return read_named(program, b"plan.set", set),
-        Ask::Named => return read_named(program, &room[..length], set),
-        Ask::Help => print_help(program, about),
-        Ask::Usage => say_usage(program),
+    let invocation = program_arguments::invocation_of(os::arg_count(), &room[..length]);
+    match invocation {
+        Invocation::Default => return read_named(program, b"plan.set", set),
+        Invocation::Named => return read_named(program, &room[..length], set),
+        Invocation::Help => print_help(program, about),
+        Invocation::Usage => say_usage(program),
     }
     FileRead {
         whole: false,
@@ -157,14 +157,14 @@ pub fn read_set(program: &[u8], about: &[u8], set: &mut [u8]) -> FileRead
 }
 
 // The plan of a set's bytes. A refused set is named on standard output.
-pub fn read_plan(program: &[u8], set: &[u8]) -> ReadAnswer
+pub fn read_plan(program: &[u8], set: &[u8]) -> ReadResult
     ensures { λ r. ⌜ r ≡ readSet (now (set .entry)) ⌝ }
 {
-    let answer = set_reader::read(set);
-    if !(answer.refusal == 0) {
-        print_refusal(program, answer.refusal);
+    let result = set_reader::read(set);
+    if !(result.refusal == 0) {
+        print_refusal(program, result.refusal);
     }
-    answer
+    result
 }
 
 // The plan of the set in a file, the all-zero record where it is refused: that of some bytes, and no promise can say of which.
@@ -173,6 +173,6 @@ pub fn plan_in(program: &[u8], name: &[u8]) -> Plan
 {
     let mut set = set_room();
     let read = read_file(program, name, &mut set);
-    let answer = set_reader::read(&set[..read.count]);
-    answer.plan
+    let result = set_reader::read(&set[..read.count]);
+    result.plan
 }

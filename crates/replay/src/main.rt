@@ -49,9 +49,9 @@ fn run(start: Replay) {
 }
 
 fn replay(set: &[u8]) {
-    let answer = program_files::read_plan(b"replay", set);
-    let plan = answer.plan;
-    if answer.refusal == 0 {
+    let result = program_files::read_plan(b"replay", set);
+    let plan = result.plan;
+    if result.refusal == 0 {
         run(Replay::start(plan));
     }
 }

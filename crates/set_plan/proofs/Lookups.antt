@@ -16,7 +16,7 @@ use Rattle.set_plan.specs.Limits.{maxRows, reqids}
 use Rattle.set_plan.specs.Record.{rowAt, rowsUsed}
 use Rattle.set_plan.specs.Find.{hasReqid, rowAmong, findRow}
 use Rattle.set_plan.specs.Answering.{masterNumber}
-use Rattle.set_plan.specs.Rules.{inRange, reqidBefore, rowAfter, rowRight, rowsRight, planRefusal}
+use Rattle.set_plan.specs.Rules.{between, reqidBefore, rowAfter, rowRight, rowsRight, planRefusal}
 use Rattle.set_plan.proofs.Accepted.{accepted, rows-few}
 
 module _ (rows : List Row) (reqid : ℕ) where
@@ -78,7 +78,7 @@ unfolding rowsRight rowRight
 found-publisher p reqid r ok e n =
     let f = found-row p reqid r e in
     let m = rows-few p (accepted p ok .rows) in
-    let each = and-r (inRange 1 maxRows (p .rowcount)) (allTo (rowRight (p .nodecount) (p .rows)) (p .rowcount)) (accepted p ok .rows) in
+    let each = and-r (between 1 maxRows (p .rowcount)) (allTo (rowRight (p .nodecount) (p .rows)) (p .rowcount)) (accepted p ok .rows) in
     let right : rowAfter (p .nodecount) (reqidBefore (p .rows) (f .place)) (rowAt (p .rows) (f .place)) ≡ true
     = all-at (rowRight (p .nodecount) (p .rows)) (p .rowcount) each (f .place) (omega (arith, f .used, m)) in
     row-publisher (p .nodecount) (reqidBefore (p .rows) (f .place)) r (rw (f .row) at right) n

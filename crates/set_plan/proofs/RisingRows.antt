@@ -16,7 +16,7 @@ use Rattle.set_plan.specs.declared.Lookup.{Lookup}
 use Rattle.set_plan.specs.Limits.{maxRows}
 use Rattle.set_plan.specs.Record.{rowAt, rowsUsed}
 use Rattle.set_plan.specs.Find.{hasReqid, rowAmong, findRow, lastAmong, risingRow}
-use Rattle.set_plan.specs.Rules.{inRange, rowRight, rowsRight, planRefusal}
+use Rattle.set_plan.specs.Rules.{between, rowRight, rowsRight, planRefusal}
 use Rattle.set_plan.proofs.Accepted.{accepted, rows-few}
 use Rattle.set_plan.proofs.Lookups.{has-not}
 use Rattle.set_plan.proofs.Rows.{rises, rises-over}
@@ -50,7 +50,7 @@ rising-found p ok reqid = go (ltb j n) refl
     few = rows-few p (accepted p ok .rows)
 
     each : allTo (rowRight (p .nodecount) (p .rows)) (p .rowcount) ≡ true
-    each = and-r (inRange 1 maxRows (p .rowcount)) (allTo (rowRight (p .nodecount) (p .rows)) (p .rowcount)) (accepted p ok .rows)
+    each = and-r (between 1 maxRows (p .rowcount)) (allTo (rowRight (p .nodecount) (p .rows)) (p .rowcount)) (accepted p ok .rows)
 
     -- a row behind the one that has the ReqId has a higher one
     behind : rowAt (p .rows) j .reqid ≡ reqid → (i : ℕ) → j < i → i < p .rowcount → hasReqid (p .rows) reqid i ≡ false

@@ -16,7 +16,7 @@ use Rattle.set_plan.specs.declared.Plan.{Plan}
 use Rattle.set_plan.specs.Limits.{maxNodes, maxRows}
 use Rattle.set_plan.specs.Profile.{profileRight}
 use Rattle.set_plan.specs.Record.{zeroEntry, zeroRow, entryAt, rowAt, rowsUsed, usedEntry, usedRow, unusedZero}
-use Rattle.set_plan.specs.Rules.{inRange, revisionRight, timesRight, entryRight, differs, nodeRight, nodesRight, reqidBefore, rowAfter, rowRight, rowsRight, isFrom, publishes, allPublish, planRefusal}
+use Rattle.set_plan.specs.Rules.{between, revisionRight, timesRight, entryRight, differs, nodeRight, nodesRight, reqidBefore, rowAfter, rowRight, rowsRight, isFrom, publishes, allPublish, planRefusal}
 
 -- a node's rule looks at the entries up to it
 node-ext : (es fs : List NodeEntry) (k : ℕ) → ((j : ℕ) → j ≤ k → entryAt es j ≡ entryAt fs j) → nodeRight es k ≡ nodeRight fs k
@@ -40,11 +40,11 @@ module _ (p : Plan) where
   row-same j m h = getD-tab maxRows (usedRow p) j zeroRow m ∙ rw (lt-ltb j (p .rowcount) h)
 
   -- the rest is asked only where the count has its range
-  within : (most : ℕ) (n : ℕ) (a b : Bool) → (n ≤ most → a ≡ b) → (inRange 1 most n && a) ≡ (inRange 1 most n && b)
+  within : (most : ℕ) (n : ℕ) (a b : Bool) → (n ≤ most → a ≡ b) → (between 1 most n && a) ≡ (between 1 most n && b)
   within most n a b h = go (leb n most) refl
     where
-      go : (c : Bool) → leb n most ≡ c → (inRange 1 most n && a) ≡ (inRange 1 most n && b)
-      go true e = ap (λ x. inRange 1 most n && x) (h (leb-true _ _ e))
+      go : (c : Bool) → leb n most ≡ c → (between 1 most n && a) ≡ (between 1 most n && b)
+      go true e = ap (λ x. between 1 most n && x) (h (leb-true _ _ e))
       go false e = rw (e, and-false (leb 1 n))
 
   nodes-same : nodesRight (unusedZero p) ≡ nodesRight p

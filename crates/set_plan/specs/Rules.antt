@@ -15,8 +15,8 @@ use Rattle.set_plan.specs.Limits.{maxNodes, maxRows, reqids, leastTime, 
 use Rattle.set_plan.specs.Profile.{profileRight}
 use Rattle.set_plan.specs.Record.{entryAt, rowAt, rowsUsed}
 
-abbrev pub inRange : ℕ → ℕ → ℕ → Bool
-inRange least most x = leb least x && leb x most
+abbrev pub between : ℕ → ℕ → ℕ → Bool
+between least most x = leb least x && leb x most
 
 -- 4: "revision, 1 to 65,535", of which 16 bits leave the lower end to judge
 abbrev pub revisionRight : Plan → Bool
@@ -24,7 +24,7 @@ revisionRight p = not (eqb (p .revision) 0)
 
 -- 5: "seven times in ticks of 1 ms, each 1 to 30,000"; "S is at least D"
 abbrev pub timeRight : ℕ → Bool
-timeRight t = inRange leastTime mostTime t
+timeRight t = between leastTime mostTime t
 
 unfoldable pub timesRight : Times → Bool
 timesRight t =
@@ -34,7 +34,7 @@ timesRight t =
 
 -- 6: "address 1 to 125"; "diagnostic class 1 to 3; method, 0 event-triggered or 1 polled; 0"
 unfoldable pub entryRight : NodeEntry → Bool
-entryRight e = inRange 1 125 (e .address) && inRange 1 3 (e .class) && leb (e .method) 1 && eqb (e .reserved) 0
+entryRight e = between 1 125 (e .address) && between 1 3 (e .class) && leb (e .method) 1 && eqb (e .reserved) 0
 
 -- 6: addresses "all different": that of node k is not that of node j
 unfoldable pub differs : List NodeEntry → ℕ → ℕ → Bool
@@ -45,7 +45,7 @@ nodeRight nodes k = entryRight (entryAt nodes k) && allTo (differs nodes k) k
 
 -- 6: "N, nodes, 1 to 16", and each node's entry
 unfoldable pub nodesRight : Plan → Bool
-nodesRight p = inRange 1 maxNodes (p .nodecount) && allTo (nodeRight (p .nodes)) (p .nodecount)
+nodesRight p = between 1 maxNodes (p .nodecount) && allTo (nodeRight (p .nodes)) (p .nodecount)
 
 -- the ReqId that row j has to be above: that of the row before, 0 before the first
 unfoldable pub reqidBefore : List Row → ℕ → ℕ
@@ -68,7 +68,7 @@ rowRight nodecount rows j = rowAfter nodecount (reqidBefore rows j) (rowAt rows 
 
 -- 7: "rows in all 1 to 127", and each row
 unfoldable pub rowsRight : Plan → Bool
-rowsRight p = inRange 1 maxRows (p .rowcount) && allTo (rowRight (p .nodecount) (p .rows)) (p .rowcount)
+rowsRight p = between 1 maxRows (p .rowcount) && allTo (rowRight (p .nodecount) (p .rows)) (p .rowcount)
 
 -- 8: "Each node publishes a row at least"
 unfoldable pub isFrom : List Row → ℕ → ℕ → Bool

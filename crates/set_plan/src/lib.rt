@@ -8,10 +8,12 @@ mod find;
 mod rules;
 
 pub use find::find_row;
+pub use rules::between;
 pub use rules::entry_right;
 pub use rules::plan_refusal;
 pub use rules::profile_right;
 pub use rules::row_after;
+pub use rules::table_index;
 pub use rules::times_right;
 
 pub struct NodeEntry {

@@ -4,15 +4,15 @@ ghost use Prim.Native.Nat.{_≤_, _<_};
 ghost use Rattle.base_lists.specs.Bounded.{allTo, tab};
 ghost use Rattle.set_plan.specs.Limits.{maxNodes, maxRows};
 ghost use Rattle.set_plan.specs.Record.{rowsUsed};
-ghost use Rattle.set_plan.specs.Rules.{inRange, timesRight, entryRight, nodeRight, nodesRight, RowWord, rowAfter, rowRight, rowsRight, publishes, allPublish, planRefusal};
+ghost use Rattle.set_plan.specs.Rules.{between, timesRight, entryRight, nodeRight, nodesRight, RowWord, rowAfter, rowRight, rowsRight, publishes, allPublish, planRefusal};
 ghost use Rattle.set_plan.specs.Profile.{profileRight};
 use crate::NodeEntry;
 use crate::Plan;
 use crate::Row;
 use crate::Times;
 
-fn in_range(least: u16, most: u16, x: u16) -> bool
-    ensures { λ r. ⌜ r ≡ inRange least most x ⌝ }
+pub fn between(least: u16, most: u16, x: u16) -> bool
+    ensures { λ r. ⌜ r ≡ between least most x ⌝ }
 {
     (least <= x) & (x <= most)
 }
@@ -26,13 +26,13 @@ pub fn profile_right(profile: u8) -> bool
 pub fn times_right(t: Times) -> bool
     ensures { λ r. ⌜ r ≡ timesRight t ⌝ }
 {
-    in_range(Times::LEAST, Times::MOST, t.window)
-        & in_range(Times::LEAST, Times::MOST, t.stop)
-        & in_range(Times::LEAST, Times::MOST, t.sleep)
-        & in_range(Times::LEAST, Times::MOST, t.quiet)
-        & in_range(Times::LEAST, Times::MOST, t.recovery)
-        & in_range(Times::LEAST, Times::MOST, t.space)
-        & in_range(Times::LEAST, Times::MOST, t.start)
+    between(Times::LEAST, Times::MOST, t.window)
+        & between(Times::LEAST, Times::MOST, t.stop)
+        & between(Times::LEAST, Times::MOST, t.sleep)
+        & between(Times::LEAST, Times::MOST, t.quiet)
+        & between(Times::LEAST, Times::MOST, t.recovery)
+        & between(Times::LEAST, Times::MOST, t.space)
+        & between(Times::LEAST, Times::MOST, t.start)
         & (t.stop <= t.sleep)
 }
 
@@ -47,7 +47,7 @@ pub fn entry_right(e: NodeEntry) -> bool
 }
 
 // A byte as an index of a table of 256.
-fn place(k: u8) -> usize
+pub fn table_index(k: u8) -> usize
     ensures { λ r. ⌜ (r ≡ k) × (r < 256) ⌝ }
 {
     k as usize
@@ -65,7 +65,7 @@ fn each_node_right(nodes: [NodeEntry; Plan::NODES], count: usize) -> bool
         if !entry_right(entry) {
             return false;
         }
-        let address = place(entry.address);
+        let address = table_index(entry.address);
         if taken[address] {
             return false;
         }
@@ -162,7 +162,7 @@ fn publishers(rows: [Row; Plan::ROWS], count: usize) -> [bool; 256]
     let mut seen = [false; 256];
     let mut j: usize = 0;
     while j < count {
-        let k = place(rows[j].publisher);
+        let k = table_index(rows[j].publisher);
         seen[k] = true;
         j += 1;
     }

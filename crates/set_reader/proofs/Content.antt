@@ -11,13 +11,13 @@ use Rattle.base_lists.specs.FirstBroken.{firstBroken}
 use Rattle.base_lists.proofs.Rules.{front-number, rest-number}
 use Rattle.set_plan.specs.declared.Plan.{Plan}
 use Rattle.set_plan.specs.Profile.{profileRight}
-use Rattle.set_plan.specs.Rules.{inRange, revisionRight, timesRight, nodesRight, rowsRight, allPublish, planRules, planRefusal}
+use Rattle.set_plan.specs.Rules.{between, revisionRight, timesRight, nodesRight, rowsRight, allPublish, planRules, planRefusal}
 use Rattle.set_reader.specs.Rules.{lengthRight, revisionsSame, countsRight, fillerRight, contentRules}
 
 -- a wrong count is 7 where the plan's rules give nothing below 7
 wrong-count-row : (revision times nodes rows published filler : Bool)
     → firstBroken 4 (revision ∷ times ∷ nodes ∷ false ∷ published ∷ filler ∷ [])
-    ≡ ifElse (inRange 4 6 (firstBroken 4 (revision ∷ times ∷ nodes ∷ rows ∷ published ∷ []))) (firstBroken 4 (revision ∷ times ∷ nodes ∷ rows ∷ published ∷ [])) 7
+    ≡ ifElse (between 4 6 (firstBroken 4 (revision ∷ times ∷ nodes ∷ rows ∷ published ∷ []))) (firstBroken 4 (revision ∷ times ∷ nodes ∷ rows ∷ published ∷ [])) 7
 wrong-count-row false times nodes rows published filler = refl
 wrong-count-row true false nodes rows published filler = refl
 wrong-count-row true true false rows published filler = refl
@@ -30,7 +30,7 @@ module _ (s : List ℕ) (p : Plan) where
   other-revision e = rw e
 
   module _ (right : profileRight (p .profile) ≡ true) (same : revisionsSame s ≡ true) where
-    pub wrong-count : countsRight s ≡ false → firstBroken 4 (contentRules s p) ≡ ifElse (inRange 4 6 (planRefusal p)) (planRefusal p) 7
+    pub wrong-count : countsRight s ≡ false → firstBroken 4 (contentRules s p) ≡ ifElse (between 4 6 (planRefusal p)) (planRefusal p) 7
     unfolding planRefusal
     wrong-count e = rw (right, same, e) (wrong-count-row (revisionRight p) (timesRight (p .times)) (nodesRight p) (rowsRight p) (allPublish p) (fillerRight s))
 

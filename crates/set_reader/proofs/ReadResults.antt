@@ -1,4 +1,4 @@
--- The reader's answer, and what it leaves in a buffer, by what its two judgements give.
+-- The result of a read, and what it leaves in a buffer, by what its two judgements give.
 use Prim.Native.Nat.{ℕ, _≤_, _<_}
 use mathlib.Core.Path.{_≡_, refl, sym, _∙_}
 use mathlib.Core.List.{List}
@@ -20,8 +20,8 @@ use Rattle.set_plan.specs.Record.{zeroPlan}
 use Rattle.set_record.specs.Record.{recordOf, recordBytes, recordWritten}
 use Rattle.set_record.proofs.Records.{record-front, record-whole}
 use Rattle.set_record.proofs.RecordTrip.{record-back}
-use Rattle.set_reader.specs.declared.ReadAnswer.{ReadAnswer}
-use Rattle.set_reader.specs.Layout.{nodeOf, nodesOf, rowcountOf, rowOf, rowsOf, planOf}
+use Rattle.set_reader.specs.declared.ReadResult.{ReadResult}
+use Rattle.set_reader.specs.Layout.{entryOf, entriesOf, rowcountOf, rowOf, rowsOf, planOf}
 use Rattle.set_reader.specs.Rules.{lengthRight, typesRight, shapeRules, contentRules}
 use Rattle.set_reader.specs.Read.{setRefusal, readSet, recordRefusal}
 
@@ -58,17 +58,17 @@ module _ (s : List ℕ) where
 
   -- the packed record of a set gives the set's plan
   pub record-of-set : recordOf (recordBytes (planOf s)) ≡ planOf s
-  unfolding planOf nodesOf rowsOf
-  record-of-set = record-back (planOf s) (length-tab 16 (nodeOf s (byte s 4))) (length-tab 127 (rowOf s (rowcountOf s)))
+  unfolding planOf entriesOf rowsOf
+  record-of-set = record-back (planOf s) (length-tab 16 (entryOf s (byte s 4))) (length-tab 127 (rowOf s (rowcountOf s)))
 
   -- the record of a buffer that has its length
   nodes-long : length (readSet s .plan .nodes) ≡ 16
-  unfolding readSet planOf nodesOf zeroPlan
-  nodes-long = by-test (λ (a : ReadAnswer). length (a .plan .nodes) ≡ 16) (eqb (setRefusal s) 0) (λ _. length-tab 16 (nodeOf s (byte s 4))) (λ _. refl)
+  unfolding readSet planOf entriesOf zeroPlan
+  nodes-long = by-test (λ (a : ReadResult). length (a .plan .nodes) ≡ 16) (eqb (setRefusal s) 0) (λ _. length-tab 16 (entryOf s (byte s 4))) (λ _. refl)
 
   rows-long : length (readSet s .plan .rows) ≡ 127
   unfolding readSet planOf rowsOf zeroPlan
-  rows-long = by-test (λ (a : ReadAnswer). length (a .plan .rows) ≡ 127) (eqb (setRefusal s) 0) (λ _. length-tab 127 (rowOf s (rowcountOf s))) (λ _. refl)
+  rows-long = by-test (λ (a : ReadResult). length (a .plan .rows) ≡ 127) (eqb (setRefusal s) 0) (λ _. length-tab 127 (rowOf s (rowcountOf s))) (λ _. refl)
 
   pub read-record-back : recordOf (recordBytes (readSet s .plan)) ≡ readSet s .plan
   read-record-back = record-back (readSet s .plan) nodes-long rows-long

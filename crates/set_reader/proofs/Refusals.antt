@@ -15,9 +15,9 @@ use Rattle.set_reader.specs.Rules.{lengthRight, checksRight, typesRight,
 use Rattle.set_reader.specs.Read.{setRules, setRefusal, readSet}
 
 module _ (s : List ℕ) where
-  pub answer-number : readSet s .refusal ≡ setRefusal s
+  pub result-number : readSet s .refusal ≡ setRefusal s
   unfolding readSet
-  answer-number = go (eqb (setRefusal s) 0) refl
+  result-number = go (eqb (setRefusal s) 0) refl
     where
       go : (b : Bool) → eqb (setRefusal s) 0 ≡ b → readSet s .refusal ≡ setRefusal s
       go true e = rw e (sym (eqb-true _ _ e))
@@ -26,20 +26,20 @@ module _ (s : List ℕ) where
   -- rule i + 1 ..
   pub given-only : (i : ℕ) → readSet s .refusal ≡ 1 + i → BrokenAt i (setRules s)
   unfolding setRefusal
-  given-only i e = number-only 1 i (setRules s) (omega arith) (sym answer-number ∙ e)
+  given-only i e = number-only 1 i (setRules s) (omega arith) (sym result-number ∙ e)
 
   pub given-there : (i : ℕ) → BrokenAt i (setRules s) → readSet s .refusal ≡ 1 + i
   unfolding setRefusal
-  given-there i h = answer-number ∙ number-given 1 i (setRules s) h
+  given-there i h = result-number ∙ number-given 1 i (setRules s) h
 
   -- .. and 0
   pub accepted-only : readSet s .refusal ≡ 0 → (j : ℕ) → getD (setRules s) j true ≡ true
   unfolding setRefusal
-  accepted-only e = none-only 1 (setRules s) (omega arith) (sym answer-number ∙ e)
+  accepted-only e = none-only 1 (setRules s) (omega arith) (sym result-number ∙ e)
 
   pub accepted-there : ((j : ℕ) → getD (setRules s) j true ≡ true) → readSet s .refusal ≡ 0
   unfolding setRefusal
-  accepted-there h = answer-number ∙ none-given 1 (setRules s) h
+  accepted-there h = result-number ∙ none-given 1 (setRules s) h
 
   -- 4, spelt out: blocks of two revisions, in a set whose length, checks, types and profile are right
   pub record OtherRevision : Type 0 where

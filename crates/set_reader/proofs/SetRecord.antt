@@ -16,7 +16,7 @@ use Rattle.base_bytes.proofs.Puts.{put-as, put-next, put-slice, put-filled}
 use Rattle.set_plan.specs.Record.{zeroEntry, zeroRow}
 use Rattle.set_record.specs.Entries.{fourByteAt, entryFrom, entryBytes, entryByteAt, rowFrom, rowBytes, rowByteAt}
 use Rattle.set_record.proofs.FourBytes.{entry-byte, row-byte, table-byte, four-there}
-use Rattle.set_reader.specs.Layout.{nodeOf, nodesOf, rowcountOf, rowPlace, rowOf, rowsOf}
+use Rattle.set_reader.specs.Layout.{entryOf, entriesOf, rowcountOf, rowPlace, rowOf, rowsOf}
 use Rattle.set_reader.specs.Rules.{lengthRight}
 
 -- the bytes of an unused place
@@ -55,12 +55,12 @@ module _ {A : Type 0} (bytes : A → List ℕ) (none : A) (from : ℕ → A) (s 
   unused i h q = table-byte bytes none _ n i q ∙ rw (le-ltb (i / 4) count (omega arith)) (zeros (i % 4))
 
 module _ (s : List ℕ) (count : ℕ) where
-  pub entry-used : (i : ℕ) → i < 4 * min count 16 → entryByteAt (nodesOf s count) i ≡ byte s (32 + i)
-  unfolding nodesOf nodeOf
+  pub entry-used : (i : ℕ) → i < 4 * min count 16 → entryByteAt (entriesOf s count) i ≡ byte s (32 + i)
+  unfolding entriesOf entryOf
   entry-used i h = used entryBytes zeroEntry (λ k. entryFrom s (32 + 4 * k)) s (λ k. 32 + 4 * k) four-zeros (λ k. entry-byte s (32 + 4 * k)) 16 count i h ∙ four-there s 32 i
 
-  entry-unused : (i : ℕ) → 4 * min count 16 ≤ i → i < 64 → entryByteAt (nodesOf s count) i ≡ 0
-  unfolding nodesOf nodeOf
+  entry-unused : (i : ℕ) → 4 * min count 16 ≤ i → i < 64 → entryByteAt (entriesOf s count) i ≡ 0
+  unfolding entriesOf entryOf
   entry-unused = unused entryBytes zeroEntry (λ k. entryFrom s (32 + 4 * k)) s (λ k. 32 + 4 * k) four-zeros (λ k. entry-byte s (32 + 4 * k)) 16 count
 
   row-used : (i : ℕ) → i < 4 * min count 127 → rowByteAt (rowsOf s count) i ≡ byte s (rowPlace (i / 4) + i % 4)
@@ -88,7 +88,7 @@ module _ (s : List ℕ) (count : ℕ) where
       go (no l) = row-unused i (omega arith) q
 
   pub entries-put : (end : ℕ) (d x y : List ℕ) → 1024 ≤ length s → end ≡ 4 * min count 16 → x ≡ sets d 19 (take (32 + end - 32) (drop 32 s))
-      → y ≡ sets x (19 + end) (replicate (64 - end) 0) → 592 ≤ length d → Put 19 64 (entryByteAt (nodesOf s count)) d y
+      → y ≡ sets x (19 + end) (replicate (64 - end) 0) → 592 ≤ length d → Put 19 64 (entryByteAt (entriesOf s count)) d y
   entries-put end d x y size is e z long =
       let same : 32 + end - 32 ≡ end = omega arith in
       put-filled 19 32 end 64 _ s d x y (rw same at e) z (omega arith) (omega arith) (omega arith) (λ i q. sym (entry-used i (omega arith))) (λ i a b. sym (entry-unused i (omega arith) b))

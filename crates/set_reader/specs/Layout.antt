@@ -14,11 +14,11 @@ use Rattle.set_plan.specs.Record.{zeroEntry, zeroRow}
 use Rattle.set_record.specs.Entries.{timesFrom, entryFrom, rowFrom}
 
 -- "From 32, N entries": "unused places zero"
-unfoldable pub nodeOf : List ℕ → ℕ → ℕ → NodeEntry
-nodeOf s count k = ifElse (ltb k count) (entryFrom s (32 + 4 * k)) zeroEntry
+unfoldable pub entryOf : List ℕ → ℕ → ℕ → NodeEntry
+entryOf s count k = ifElse (ltb k count) (entryFrom s (32 + 4 * k)) zeroEntry
 
-unfoldable pub nodesOf : List ℕ → ℕ → List NodeEntry
-nodesOf s count = tab maxNodes (nodeOf s count)
+unfoldable pub entriesOf : List ℕ → ℕ → List NodeEntry
+entriesOf s count = tab maxNodes (entryOf s count)
 
 -- "from 8, rows": row 100 is the first of the second message block, at 1024 + 8
 unfoldable pub rowPlace : ℕ → ℕ
@@ -42,4 +42,4 @@ rowcountOf s = ifElse (oneMessageBlock s) (byte s 516) (blockRows + byte s 1028)
 -- "2-3 revision", "4 = N, nodes", "Byte 5 .. is 1 for this profile and 0 otherwise", "6-19 seven times"
 unfoldable pub planOf : List ℕ → Plan
 planOf s =
-    record { revision = number s 2; profile = byte s 5; nodecount = byte s 4; times = timesFrom s 6; nodes = nodesOf s (byte s 4); rowcount = rowcountOf s; rows = rowsOf s (rowcountOf s) }
+    record { revision = number s 2; profile = byte s 5; nodecount = byte s 4; times = timesFrom s 6; nodes = entriesOf s (byte s 4); rowcount = rowcountOf s; rows = rowsOf s (rowcountOf s) }

@@ -11,7 +11,7 @@ use Rattle.base_bytes.specs.Limits.{blockLength}
 use Rattle.set_plan.specs.declared.Plan.{Plan}
 use Rattle.set_plan.specs.Limits.{blockRows}
 use Rattle.set_plan.specs.Profile.{profileRight}
-use Rattle.set_plan.specs.Rules.{inRange, revisionRight, timesRight, nodesRight, rowsRight, allPublish}
+use Rattle.set_plan.specs.Rules.{between, revisionRight, timesRight, nodesRight, rowsRight, allPublish}
 use Rattle.set_reader.specs.Layout.{oneMessageBlock, planOf}
 
 -- "each over all blocks": the plan block, one message block, a second unless the length is that of one
@@ -48,7 +48,7 @@ revisionsSame s = eachBlock s (revisionSame s)
 
 -- 7: "4 = rows, 1 to 100, exactly 100 in the first of two"
 unfoldable pub countsRight : List ℕ → Bool
-countsRight s = inRange 1 blockRows (byte s 516) && (oneMessageBlock s || eqb (byte s 516) blockRows && inRange 1 blockRows (byte s 1028))
+countsRight s = between 1 blockRows (byte s 516) && (oneMessageBlock s || eqb (byte s 516) blockRows && between 1 blockRows (byte s 1028))
 
 -- 9: "Unnamed bytes are zero": the offsets of a block that have a name, those of a head, of so many entries or rows from an offset on, of the check
 abbrev pub blockNamed : ℕ → ℕ → ℕ → ℕ → Bool

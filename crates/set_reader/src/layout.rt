@@ -10,7 +10,7 @@ ghost use Rattle.set_plan.specs.Limits.{maxNodes, maxRows};
 ghost use Rattle.set_record.specs.Entries.{timesFrom, entryByteAt, rowByteAt};
 ghost use Rattle.set_record.specs.Offsets.{entriesAt, rowsAt, recordLength};
 ghost use Rattle.set_record.specs.Record.{recordHead, recordBytes};
-ghost use Rattle.set_reader.specs.Layout.{nodesOf, rowcountOf, rowsOf, planOf};
+ghost use Rattle.set_reader.specs.Layout.{entriesOf, rowcountOf, rowsOf, planOf};
 ghost use Rattle.set_reader.specs.Rules.{lengthRight};
 use crate::offsets::ENTRIES_AT;
 use crate::offsets::FIRST_ROWCOUNT_AT;
@@ -53,7 +53,7 @@ fn head_of(s: &[u8]) -> [u8; set_record::ENTRIES_AT]
 
 fn put_entries(s: &[u8], buffer: &mut [u8])
     requires { ⌜ (lengthRight (now s) ≡ true) × (recordLength ≤ length (now buffer)) ⌝ }
-    ensures { λ _. ⌜ Put entriesAt (4 * maxNodes) (entryByteAt (nodesOf (now (s .entry)) (byte (now (s .entry)) 4))) (now (buffer .entry)) (now (buffer .exit)) ⌝ }
+    ensures { λ _. ⌜ Put entriesAt (4 * maxNodes) (entryByteAt (entriesOf (now (s .entry)) (byte (now (s .entry)) 4))) (now (buffer .entry)) (now (buffer .exit)) ⌝ }
 {
     let end = 4 * least(byte_at(s, NODECOUNT_AT) as usize, Plan::NODES);
     put(

@@ -18,7 +18,7 @@ pub use offsets::LONG_LENGTH;
 pub use offsets::ROWS_AT;
 pub use offsets::SHORT_LENGTH;
 
-pub struct ReadAnswer {
+pub struct ReadResult {
     pub refusal: u8,
     pub plan: Plan,
 }
@@ -33,7 +33,7 @@ fn clear(buffer: &mut [u8])
     put_zeros(buffer, 0, set_record::LENGTH);
 }
 
-// Reads a set into a packed plan record at the front of a buffer; answers 0, or the number of the first rule that the bytes break with
+// Reads a set into a packed plan record at the front of a buffer; gives 0, or the number of the first rule that the bytes break with
 // the all-zero record, or 10 for a buffer that is too short, which stays.
 // The record is made once the bytes have the shape of a set, since a wrong length or check is the common refusal.
 pub fn read_record(set: &[u8], buffer: &mut [u8]) -> u8
@@ -60,11 +60,11 @@ pub fn read_record(set: &[u8], buffer: &mut [u8]) -> u8
 }
 
 // The record of a set, or the number of the first rule that the bytes break with the all-zero record.
-pub fn read(set: &[u8]) -> ReadAnswer
+pub fn read(set: &[u8]) -> ReadResult
     ensures { λ r. ⌜ r ≡ readSet (now (set .entry)) ⌝ }
 {
     let mut record = [0; set_record::LENGTH];
     let refusal = read_record(set, &mut record[..]);
     let plan = set_record::plan_of(&record[..]);
-    ReadAnswer { refusal, plan }
+    ReadResult { refusal, plan }
 }

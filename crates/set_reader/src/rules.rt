@@ -5,7 +5,7 @@ ghost use Prim.Native.Nat.{_≤_, _<_};
 ghost use Rattle.base_lists.specs.Bounded.{allTo, ifElse};
 ghost use Rattle.base_lists.specs.FirstBroken.{firstBroken};
 ghost use Rattle.set_plan.specs.Profile.{profileRight};
-ghost use Rattle.set_plan.specs.Rules.{inRange, planRefusal};
+ghost use Rattle.set_plan.specs.Rules.{between, planRefusal};
 ghost use Rattle.base_bytes.specs.Limits.{blockLength};
 ghost use Rattle.set_reader.specs.Layout.{planOf};
 ghost use Rattle.set_reader.specs.Rules.{lengthRight, checkRight, checksRight, blockType, typeRight, typesRight, revisionSame, revisionsSame, countsRight, fillerAt, messageFillerAt, fillerRight, FillerStart, shapeRules, contentRules};
@@ -26,6 +26,7 @@ use base_bytes::block_check;
 use base_bytes::byte_at;
 use base_bytes::number_at;
 use set_plan::Plan;
+use set_plan::between;
 
 fn length_right(s: &[u8]) -> bool
     ensures { λ r. ⌜ r ≡ lengthRight (now (s .entry)) ⌝ }
@@ -104,20 +105,14 @@ fn revisions_same(s: &[u8]) -> bool
     revision_same(s, 0) & revision_same(s, 1) & ((s.len() == SHORT_LENGTH) | revision_same(s, 2))
 }
 
-fn in_range(least: u16, most: u16, x: u16) -> bool
-    ensures { λ r. ⌜ r ≡ inRange least most x ⌝ }
-{
-    (least <= x) & (x <= most)
-}
-
 fn counts_right(s: &[u8]) -> bool
     ensures { λ r. ⌜ r ≡ countsRight (now (s .entry)) ⌝ }
 {
     let first = byte_at(s, FIRST_ROWCOUNT_AT) as u16;
     let second = byte_at(s, SECOND_ROWCOUNT_AT) as u16;
-    in_range(1, Plan::BLOCK_ROWS, first)
+    between(1, Plan::BLOCK_ROWS, first)
         & ((s.len() == SHORT_LENGTH)
-            | (first == Plan::BLOCK_ROWS) & in_range(1, Plan::BLOCK_ROWS, second))
+            | (first == Plan::BLOCK_ROWS) & between(1, Plan::BLOCK_ROWS, second))
 }
 
 // Where the filler behind some entries of 4 bytes starts.
@@ -157,9 +152,9 @@ fn filler_right(s: &[u8]) -> bool
 
 // The plan's refusal where a block's row count is wrong: 4 to 6 come before 7.
 fn with_wrong_count(refusal: u8) -> u8
-    ensures { λ r. ⌜ r ≡ ifElse (inRange 4 6 refusal) refusal 7 ⌝ }
+    ensures { λ r. ⌜ r ≡ ifElse (between 4 6 refusal) refusal 7 ⌝ }
 {
-    if in_range(4, 6, refusal as u16) {
+    if between(4, 6, refusal as u16) {
         refusal
     } else {
         7

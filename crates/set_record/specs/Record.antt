@@ -21,8 +21,8 @@ recordEntry s k = entryFrom s (entriesAt + 4 * k)
 abbrev pub recordRow : List ℕ → ℕ → Row
 recordRow s j = rowFrom s (rowsAt + 4 * j)
 
-abbrev pub nodesIn : List ℕ → List NodeEntry
-nodesIn s = tab maxNodes (recordEntry s)
+abbrev pub entriesIn : List ℕ → List NodeEntry
+entriesIn s = tab maxNodes (recordEntry s)
 
 abbrev pub rowsIn : List ℕ → List Row
 rowsIn s = tab maxRows (recordRow s)
@@ -30,7 +30,7 @@ rowsIn s = tab maxRows (recordRow s)
 -- the plan in the bytes of a record
 abbrev pub planIn : List ℕ → Plan
 planIn s =
-    record { revision = number s revisionAt; profile = byte s profileAt; nodecount = byte s nodecountAt; times = timesFrom s timesAt; nodes = nodesIn s; rowcount = number s rowcountAt; rows = rowsIn s }
+    record { revision = number s revisionAt; profile = byte s profileAt; nodecount = byte s nodecountAt; times = timesFrom s timesAt; nodes = entriesIn s; rowcount = number s rowcountAt; rows = rowsIn s }
 
 -- bytes of another length are the all-zero record
 unfoldable pub recordOf : List ℕ → Plan

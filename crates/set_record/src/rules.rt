@@ -1,27 +1,21 @@
 // The rules of a plan in the bytes of its packed record: each entry and each row by the rule that judges a record's.
 ghost use mathlib.Core.Path.{_≡_};
-ghost use Prim.Native.Nat.{_≤_, _<_};
+ghost use Prim.Native.Nat.{_≤_};
 ghost use lib.ListN.{length};
 ghost use Rattle.base_lists.specs.Bounded.{allTo};
 ghost use Rattle.set_plan.specs.Limits.{maxNodes, maxRows};
 ghost use Rattle.set_plan.specs.Rules.{nodeRight, planRefusal};
 ghost use Rattle.set_record.specs.Offsets.{recordLength};
-ghost use Rattle.set_record.specs.Record.{nodesIn, rowsIn, planIn};
+ghost use Rattle.set_record.specs.Record.{entriesIn, rowsIn, planIn};
 ghost use Rattle.set_record.specs.RowsRefusal.{rowsRefusal};
 use crate::fields;
 use crate::offsets::TIMES_AT;
 use set_plan::Plan;
-
-// A byte as an index of a table of 256.
-fn place(k: u8) -> usize
-    ensures { λ r. ⌜ (r ≡ k) × (r < 256) ⌝ }
-{
-    k as usize
-}
+use set_plan::table_index;
 
 fn each_node_right(bytes: &[u8], count: u32) -> bool
     requires { ⌜ (length (now bytes) ≡ recordLength) × (count ≤ maxNodes) ⌝ }
-    ensures { λ r. ⌜ r ≡ allTo (nodeRight (nodesIn (now (bytes .entry)))) count ⌝ }
+    ensures { λ r. ⌜ r ≡ allTo (nodeRight (entriesIn (now (bytes .entry)))) count ⌝ }
 {
     let mut taken = [false; 256];
     let mut k: u32 = 0;
@@ -30,7 +24,7 @@ fn each_node_right(bytes: &[u8], count: u32) -> bool
         if !set_plan::entry_right(entry) {
             return false;
         }
-        let address = place(entry.address);
+        let address = table_index(entry.address);
         if taken[address] {
             return false;
         }
@@ -53,7 +47,7 @@ fn rows_refusal(bytes: &[u8], nodecount: u8, count: u32) -> u8
         if !set_plan::row_after(nodecount, before, row) {
             return 7;
         }
-        let publisher = place(row.publisher);
+        let publisher = table_index(row.publisher);
         seen[publisher] = true;
         before = row.reqid;
         j += 1;

@@ -2,16 +2,16 @@
 ghost use mathlib.Core.Path.{_≡_};
 ghost use lib.ListN.{length};
 ghost use Rattle.set_record.specs.Offsets.{recordLength};
-ghost use Rattle.set_record.specs.Record.{nodesIn, rowsIn, planIn};
+ghost use Rattle.set_record.specs.Record.{entriesIn, rowsIn, planIn};
 use crate::fields;
 use crate::offsets::TIMES_AT;
 use set_plan::NodeEntry;
 use set_plan::Plan;
 use set_plan::Row;
 
-fn nodes_in(bytes: &[u8]) -> [NodeEntry; Plan::NODES]
+fn entries_in(bytes: &[u8]) -> [NodeEntry; Plan::NODES]
     requires { ⌜ length (now bytes) ≡ recordLength ⌝ }
-    ensures { λ r. ⌜ r ≡ nodesIn (now (bytes .entry)) ⌝ }
+    ensures { λ r. ⌜ r ≡ entriesIn (now (bytes .entry)) ⌝ }
 {
     let mut nodes = [NodeEntry::ZERO; Plan::NODES];
     let mut k: u32 = 0;
@@ -40,7 +40,7 @@ pub(crate) fn plan_in(bytes: &[u8]) -> Plan
     ensures { λ r. ⌜ r ≡ planIn (now (bytes .entry)) ⌝ }
 {
     let times = fields::times_at(bytes, TIMES_AT);
-    let nodes = nodes_in(bytes);
+    let nodes = entries_in(bytes);
     let rows = rows_in(bytes);
     Plan {
         revision: fields::revision_in(bytes),

@@ -1,4 +1,4 @@
--- What is shown of a reader's answer.
+-- What is shown of a read's result.
 use Prim.Native.Nat.{ℕ, _≤_}
 use mathlib.Core.Path.{_≡_, refl}
 use mathlib.Core.List.{List}
@@ -12,7 +12,7 @@ use Rattle.set_reader.specs.Layout.{planOf}
 use Rattle.set_reader.specs.Read.{setRefusal, readSet}
 use Rattle.set_reader.proofs.Accepted.{accepted-set}
 
--- an answer's counts are those of an accepted plan, or zero
+-- a result's counts are those of an accepted plan, or zero
 pub counts-few : (s : List ℕ) → (readSet s .plan .nodecount ≤ 16) × (readSet s .plan .rowcount ≤ 127)
 unfolding readSet zeroPlan
 counts-few s = go (eqb (setRefusal s) 0) refl

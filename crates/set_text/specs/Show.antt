@@ -11,7 +11,7 @@ use Rattle.set_plan.specs.declared.Plan.{Plan}
 use Rattle.set_plan.specs.Answering.{isCounted, isVariable}
 use Rattle.set_plan.specs.Profile.{sleeps}
 use Rattle.set_plan.specs.Record.{entryAt, rowAt}
-use Rattle.set_reader.specs.declared.ReadAnswer.{ReadAnswer}
+use Rattle.set_reader.specs.declared.ReadResult.{ReadResult}
 use Rattle.base_text.specs.Text.{ascii, decimal, hexByte}
 
 unfoldable pub timeLine : List ℕ → ℕ → List ℕ
@@ -94,5 +94,5 @@ ruleText number =
 unfoldable pub refusalText : ℕ → List ℕ
 refusalText number = ascii "set " ++ decimal number ++ ascii "\n" ++ ruleText number ++ ascii "\n"
 
-unfoldable pub answerText : ReadAnswer → List ℕ
-answerText answer = ifElse (eqb (answer .refusal) 0) (planText (answer .plan)) (refusalText (answer .refusal))
+unfoldable pub resultText : ReadResult → List ℕ
+resultText result = ifElse (eqb (result .refusal) 0) (planText (result .plan)) (refusalText (result .refusal))

@@ -3,7 +3,7 @@ ghost use Prim.Native.Nat.{_≤_};
 ghost use Rattle.base_text.specs.Text.{Appended, Shown, Counts};
 ghost use Rattle.set_plan.specs.Limits.{maxNodes, maxRows};
 ghost use Rattle.set_reader.specs.Read.{readSet};
-ghost use Rattle.set_text.specs.Show.{timeLine, wakeUpTimesText, timesText, methodText, classAndMethodText, nodeLine, nodesText, publisherText, countText, lengthText, lengthAndCountText, rowLine, rowsText, revisionLine, profileLine, planText, contentRuleText, ruleText, refusalText, answerText};
+ghost use Rattle.set_text.specs.Show.{timeLine, wakeUpTimesText, timesText, methodText, classAndMethodText, nodeLine, nodesText, publisherText, countText, lengthText, lengthAndCountText, rowLine, rowsText, revisionLine, profileLine, planText, contentRuleText, ruleText, refusalText, resultText};
 use base_text::append;
 use base_text::append_decimal;
 use base_text::append_hex;
@@ -12,7 +12,7 @@ use set_plan::NodeEntry;
 use set_plan::Plan;
 use set_plan::Row;
 use set_plan::Times;
-use set_reader::ReadAnswer;
+use set_reader::ReadResult;
 
 fn append_time(buffer: &mut [u8], at: usize, label: &[u8], ticks: u16) -> usize
     ensures { λ r. ⌜ Appended at (timeLine (now (label .entry)) ticks) (now (buffer .entry)) (now (buffer .exit)) r ⌝ }
@@ -246,12 +246,12 @@ fn append_refusal(buffer: &mut [u8], at: usize, number: u8) -> usize
     append(buffer, d, b"\n")
 }
 
-fn append_answer(buffer: &mut [u8], at: usize, answer: ReadAnswer) -> usize
-    requires { ⌜ (answer .plan .nodecount ≤ maxNodes) × (answer .plan .rowcount ≤ maxRows) ⌝ }
-    ensures { λ r. ⌜ Appended at (answerText answer) (now (buffer .entry)) (now (buffer .exit)) r ⌝ }
+fn append_result(buffer: &mut [u8], at: usize, result: ReadResult) -> usize
+    requires { ⌜ (result .plan .nodecount ≤ maxNodes) × (result .plan .rowcount ≤ maxRows) ⌝ }
+    ensures { λ r. ⌜ Appended at (resultText result) (now (buffer .entry)) (now (buffer .exit)) r ⌝ }
 {
-    let refusal = answer.refusal;
-    let plan = answer.plan;
+    let refusal = result.refusal;
+    let plan = result.plan;
     if refusal == 0 {
         append_plan(buffer, at, plan)
     } else {
@@ -259,12 +259,12 @@ fn append_answer(buffer: &mut [u8], at: usize, answer: ReadAnswer) -> usize
     }
 }
 
-// Stores the words for a set's bytes at the front of a buffer, as far as it has room, and answers how many bytes they take there.
+// Stores the words for a set's bytes at the front of a buffer, as far as it has room, and gives how many bytes they take there.
 pub fn show(bytes: &[u8], buffer: &mut [u8]) -> usize
-    ensures { λ r. ⌜ Shown (answerText (readSet (now (bytes .entry)))) (now (buffer .entry)) (now (buffer .exit)) r ⌝ }
+    ensures { λ r. ⌜ Shown (resultText (readSet (now (bytes .entry)))) (now (buffer .entry)) (now (buffer .exit)) r ⌝ }
     ensures { λ r. ⌜ Counts r (now (buffer .exit)) ⌝ }
 {
-    let answer = set_reader::read(bytes);
-    let end = append_answer(buffer, 0, answer);
+    let result = set_reader::read(bytes);
+    let end = append_result(buffer, 0, result);
     below(&buffer[..], end)
 }

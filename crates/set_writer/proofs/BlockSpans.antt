@@ -9,7 +9,7 @@ use borrow.Author.Tests.{lt-ltb, le-ltb}
 use Rattle.base_lists.specs.Bounded.{tab}
 use Rattle.base_bytes.specs.Bytes.{byte}
 use Rattle.set_plan.specs.declared.Plan.{Plan}
-use Rattle.set_writer.specs.Write.{blockByte, planHead, planByte, rowsIn, messageHead, messageByte, dataByte}
+use Rattle.set_writer.specs.Write.{blockByte, planHead, planByte, rowsInBlock, messageHead, messageByte, dataByte}
 use Rattle.set_writer.proofs.Blocks.{block-put}
 use Rattle.base_bytes.specs.Puts.{Put}
 use Rattle.set_record.specs.Entries.{entryByteAt, rowByteAt}
@@ -53,8 +53,8 @@ module _ (s : List ℕ) (size : length s ≡ 592) where
       (ap length e ∙ plan-head-long p) (omega arith) (omega arith) (omega arith) (λ i q. sym (entry-in s size i (omega arith))) refl (omega arith) h1 h2 h3 in
       put-as 0 512 _ (dataByte p) d z (rw (e, is) at a) (λ i q. rw (lt-ltb i 512 q))
 
-  pub message-put : (b n : ℕ) (d x y z head : List ℕ) → 1 ≤ b → n ≡ rowsIn (recordOf s .rowcount) b → n ≤ 100 → 100 * (b - 1) + n ≤ 127 → 512 * b + 512 ≤ length d
-      → head ≡ messageHead (recordOf s .revision) (rowsIn (recordOf s .rowcount) b) → x ≡ sets d (512 * b) head
+  pub message-put : (b n : ℕ) (d x y z head : List ℕ) → 1 ≤ b → n ≡ rowsInBlock (recordOf s .rowcount) b → n ≤ 100 → 100 * (b - 1) + n ≤ 127 → 512 * b + 512 ≤ length d
+      → head ≡ messageHead (recordOf s .revision) (rowsInBlock (recordOf s .rowcount) b) → x ≡ sets d (512 * b) head
       → y ≡ sets x (512 * b + 8) (take (83 + 400 * (b - 1) + 4 * n - (83 + 400 * (b - 1))) (drop (83 + 400 * (b - 1)) s)) → z ≡ sets y (512 * b + (8 + 4 * n)) (replicate (512 - (8 + 4 * n)) 0)
       → Put (512 * b) 512 (messageByte (recordOf s) b) d z
   unfolding messageByte
@@ -62,6 +62,6 @@ module _ (s : List ℕ) (size : length s ≡ 592) where
       let p = recordOf s in
       let rows : ℕ → ℕ = λ i. rowByteAt (p .rows) (400 * (b - 1) + i) in
       let a : Put (512 * b) 512 (blockByte head 8 rows n) d z = block-put head 8 rows n s (512 * b) (83 + 400 * (b - 1)) (512 * b + 8) (512 * b + (8 + 4 * n)) d x y z
-      (ap length e ∙ message-head-long (p .revision) (rowsIn (p .rowcount) b)) (omega arith) (omega arith) (omega arith)
+      (ap length e ∙ message-head-long (p .revision) (rowsInBlock (p .rowcount) b)) (omega arith) (omega arith) (omega arith)
       (λ i q. let t : 83 + (400 * (b - 1) + i) ≡ 83 + 400 * (b - 1) + i = omega arith in sym (row-in s size (400 * (b - 1) + i) (omega arith) ∙ ap (byte s) t)) refl refl h1 h2 h3 in
       rw (e, is) at a

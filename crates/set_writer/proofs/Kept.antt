@@ -14,7 +14,7 @@ use Rattle.base_lists.proofs.AllAny.{all-intro}
 use Rattle.base_bytes.specs.Bytes.{byte, number, twoBytes}
 use Rattle.set_plan.specs.declared.Plan.{Plan}
 use Rattle.set_reader.specs.Rules.{eachBlock, lengthRight, checkRight, checksRight, blockType, typeRight, typesRight, revisionSame, revisionsSame, countsRight, blockNamed, planNamed, messageNamed, named, fillerAt, fillerRight}
-use Rattle.set_writer.specs.Write.{planHead, rowsIn, messageHead, setLength, writeSet}
+use Rattle.set_writer.specs.Write.{planHead, rowsInBlock, messageHead, setLength, writeSet}
 use Rattle.set_writer.proofs.SetLengths.{blockCount, length-short, length-long, length-blocks}
 use Rattle.set_writer.proofs.SetBytes.{set-long, set-check, head-byte, plan-filler, message-head, message-filler}
 use Rattle.set_writer.proofs.ReadBack.{nodecount-back}
@@ -68,7 +68,7 @@ module _ (p : Plan) (few-nodes : p .nodecount ≤ 16) (some : 1 ≤ p .rowcount)
   revisions-kept = each (revisionSame (writeSet p)) (λ b h. eq-eqb _ _ (start b h .2 ∙ sym (start 0 (omega (arith, two-blocks)) .2)))
 
   pub counts-kept : countsRight (writeSet p) ≡ true
-  unfolding countsRight messageHead rowsIn
+  unfolding countsRight messageHead rowsInBlock
   counts-kept =
       let c1 : byte (writeSet p) 516 ≡ min (p .rowcount) 100 = message-head p 1 (omega arith) (omega (arith, two-blocks)) 4 (omega arith) in
       ⊎-elim (λ w. rw (c1, w .0, le-leb 1 (min (p .rowcount) 100) (omega arith), le-leb (min (p .rowcount) 100) 100 (omega arith)))
@@ -107,12 +107,12 @@ module _ (p : Plan) (few-nodes : p .nodecount ≤ 16) (some : 1 ≤ p .rowcount)
   plan-named : (o : ℕ) → (planNamed (p .nodecount) o || eqb (byte (writeSet p) o) 0) ≡ true
   plan-named = named-kept (byte (writeSet p)) 20 32 (p .nodecount) (λ o a b. let e : o ≡ 20 + (o - 20) = omega arith in ap (byte (writeSet p)) e ∙ head-filler (o - 20) (omega arith)) (plan-filler p)
 
-  message-named : (b o : ℕ) → 1 ≤ b → b < blockCount (p .rowcount) → (messageNamed (rowsIn (p .rowcount) b) o || eqb (byte (writeSet p) (512 * b + o)) 0) ≡ true
+  message-named : (b o : ℕ) → 1 ≤ b → b < blockCount (p .rowcount) → (messageNamed (rowsInBlock (p .rowcount) b) o || eqb (byte (writeSet p) (512 * b + o)) 0) ≡ true
   unfolding messageHead
-  message-named b o x y = named-kept (λ o. byte (writeSet p) (512 * b + o)) 5 8 (rowsIn (p .rowcount) b) (λ o a c.
+  message-named b o x y = named-kept (λ o. byte (writeSet p) (512 * b + o)) 5 8 (rowsInBlock (p .rowcount) b) (λ o a c.
       let z : o ≡ 5 + (o - 5) = omega arith in
-      message-head p b x y o c ∙ ap (λ i. getD (messageHead (p .revision) (rowsIn (p .rowcount) b)) i 0) z
-      ∙ getD-append-add (0x4d ∷ 1 ∷ twoBytes (p .revision) ++ rowsIn (p .rowcount) b ∷ []) (replicate 3 0) (o - 5) 0 ∙ getD-replicate 3 (o - 5) 0 0 (omega arith)) (message-filler p b x y) o
+      message-head p b x y o c ∙ ap (λ i. getD (messageHead (p .revision) (rowsInBlock (p .rowcount) b)) i 0) z
+      ∙ getD-append-add (0x4d ∷ 1 ∷ twoBytes (p .revision) ++ rowsInBlock (p .rowcount) b ∷ []) (replicate 3 0) (o - 5) 0 ∙ getD-replicate 3 (o - 5) 0 0 (omega arith)) (message-filler p b x y) o
 
   filler-at : (o : ℕ) → o < setLength (p .rowcount) → fillerAt (writeSet p) o ≡ true
   unfolding fillerAt named messageHead
@@ -126,7 +126,7 @@ module _ (p : Plan) (few-nodes : p .nodecount ≤ 16) (some : 1 ≤ p .rowcount)
           let y : b < blockCount (p .rowcount) = omega (arith, length-blocks (p .rowcount)) in
           let z : o ≡ 512 * b + o % 512 = omega arith in
           rw (le-ltb o 512 (omega arith), message-head p b x y 4 (omega arith))
-          (ap (λ k. messageNamed (rowsIn (p .rowcount) b) (o % 512) || eqb (byte (writeSet p) k) 0) z ∙ message-named b (o % 512) x y)
+          (ap (λ k. messageNamed (rowsInBlock (p .rowcount) b) (o % 512) || eqb (byte (writeSet p) k) 0) z ∙ message-named b (o % 512) x y)
 
   pub filler-kept : fillerRight (writeSet p) ≡ true
   unfolding fillerRight

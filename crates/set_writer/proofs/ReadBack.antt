@@ -14,8 +14,8 @@ use Rattle.set_plan.specs.declared.Plan.{Plan}
 use Rattle.set_plan.specs.Record.{entryAt, rowAt, usedEntry, usedRow, unusedZero}
 use Rattle.set_record.specs.Entries.{timesFrom, entryFrom, rowFrom, rowByteAt}
 use Rattle.set_record.proofs.FourBytes.{entry-from, row-from}
-use Rattle.set_reader.specs.Layout.{nodeOf, nodesOf, rowcountOf, rowPlace, rowOf, rowsOf, planOf}
-use Rattle.set_writer.specs.Write.{planHead, rowsIn, messageHead, writeSet}
+use Rattle.set_reader.specs.Layout.{entryOf, entriesOf, rowcountOf, rowPlace, rowOf, rowsOf, planOf}
+use Rattle.set_writer.specs.Write.{planHead, rowsInBlock, messageHead, writeSet}
 use Rattle.set_writer.proofs.SetLengths.{blockCount, length-short, length-long}
 use Rattle.set_writer.proofs.SetBytes.{set-long, head-byte, node-byte, message-head, message-row}
 
@@ -46,7 +46,7 @@ module _ (p : Plan) (few-nodes : p .nodecount ≤ 16) (few-rows : p .rowcount �
       }
 
   pub rowcount-back : rowcountOf (writeSet p) ≡ p .rowcount
-  unfolding rowcountOf messageHead rowsIn
+  unfolding rowcountOf messageHead rowsInBlock
   rowcount-back = go (leb (p .rowcount) 100) refl
     where
       go : (b : Bool) → leb (p .rowcount) 100 ≡ b → rowcountOf (writeSet p) ≡ p .rowcount
@@ -63,17 +63,17 @@ module _ (p : Plan) (few-nodes : p .nodecount ≤ 16) (few-rows : p .rowcount �
       let o : 32 + 4 * k + m ≡ 32 + (4 * k + m) = omega arith in
       rw o (node-byte p (4 * k + m) (omega arith) few-nodes))
 
-  pub nodes-back : nodesOf (writeSet p) (byte (writeSet p) 4) ≡ tab 16 (usedEntry p)
-  unfolding nodesOf nodeOf usedEntry
-  nodes-back = rw nodecount-back (tab-ext 16 (nodeOf (writeSet p) (p .nodecount)) (usedEntry p) (λ k h. go k (ltb k (p .nodecount)) refl))
+  pub nodes-back : entriesOf (writeSet p) (byte (writeSet p) 4) ≡ tab 16 (usedEntry p)
+  unfolding entriesOf entryOf usedEntry
+  nodes-back = rw nodecount-back (tab-ext 16 (entryOf (writeSet p) (p .nodecount)) (usedEntry p) (λ k h. go k (ltb k (p .nodecount)) refl))
     where
-      go : (k : ℕ) (b : Bool) → ltb k (p .nodecount) ≡ b → nodeOf (writeSet p) (p .nodecount) k ≡ usedEntry p k
+      go : (k : ℕ) (b : Bool) → ltb k (p .nodecount) ≡ b → entryOf (writeSet p) (p .nodecount) k ≡ usedEntry p k
       go k true e = rw e (entry-back k (ltb-true _ _ e))
       go k false e = rw e
 
   -- byte m of row j
   row-byte : (j m : ℕ) → j < p .rowcount → m < 4 → byte (writeSet p) (rowPlace j + m) ≡ rowByteAt (p .rows) (4 * j + m)
-  unfolding rowPlace rowsIn
+  unfolding rowPlace rowsInBlock
   row-byte j m h q = go (ltb j 100) refl (leb (p .rowcount) 100) refl
     where
       go : (a : Bool) → ltb j 100 ≡ a → (b : Bool) → leb (p .rowcount) 100 ≡ b → byte (writeSet p) (rowPlace j + m) ≡ rowByteAt (p .rows) (4 * j + m)

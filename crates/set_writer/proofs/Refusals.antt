@@ -1,4 +1,4 @@
--- What the writer answers and leaves, by its refusal.
+-- What a write gives and leaves, by its refusal.
 use Prim.Native.Nat.{ℕ, _≤_, _<_}
 use mathlib.Core.Path.{_≡_, refl}
 use mathlib.Core.List.{List, _++_}
@@ -11,8 +11,8 @@ use Rattle.base_lists.specs.Bounded.{tab}
 use Rattle.base_lists.proofs.Tables.{length-tab}
 use Rattle.set_plan.specs.declared.Plan.{Plan}
 use Rattle.set_plan.specs.Rules.{planRefusal}
-use Rattle.set_writer.specs.declared.WriteAnswer.{WriteAnswer}
-use Rattle.set_writer.specs.Write.{setLength, dataByte, withChecks, writeSet, writeRefusal, writeAnswer, written}
+use Rattle.set_writer.specs.declared.WriteResult.{WriteResult}
+use Rattle.set_writer.specs.Write.{setLength, dataByte, withChecks, writeSet, writeRefusal, writeResult, written}
 use Rattle.set_writer.proofs.SetBytes.{checks-front}
 
 module _ (p : Plan) where
@@ -41,17 +41,17 @@ module _ (p : Plan) where
   unfolding writeRefusal
   room-given n a b = rw (a, le-ltb n (setLength (p .rowcount)) b)
 
-  pub refused-answer : (n k : ℕ) → k ≡ writeRefusal p n → (k ≡ 0 → ⊥) → _≡_ {A = WriteAnswer} (record { refusal = k; length = 0 }) (writeAnswer p n)
-  unfolding writeAnswer
-  refused-answer n k e h = rw (← e, ne-eqb _ _ h)
+  pub refused-result : (n k : ℕ) → k ≡ writeRefusal p n → (k ≡ 0 → ⊥) → _≡_ {A = WriteResult} (record { refusal = k; length = 0 }) (writeResult p n)
+  unfolding writeResult
+  refused-result n k e h = rw (← e, ne-eqb _ _ h)
 
   pub refused-buffer : (d : List ℕ) (k : ℕ) → k ≡ writeRefusal p (length d) → (k ≡ 0 → ⊥) → d ≡ written p d
   unfolding written
   refused-buffer d k e h = rw (← e, ne-eqb _ _ h)
 
-  pub done-answer : (n m : ℕ) → writeRefusal p n ≡ 0 → m ≡ setLength (p .rowcount) → _≡_ {A = WriteAnswer} (record { refusal = 0; length = m }) (writeAnswer p n)
-  unfolding writeAnswer
-  done-answer n m e h = rw (e, h)
+  pub done-result : (n m : ℕ) → writeRefusal p n ≡ 0 → m ≡ setLength (p .rowcount) → _≡_ {A = WriteResult} (record { refusal = 0; length = m }) (writeResult p n)
+  unfolding writeResult
+  done-result n m e h = rw (e, h)
 
   pub done-buffer : (d : List ℕ) → writeRefusal p (length d) ≡ 0
       → withChecks (p .rowcount) (tab (setLength (p .rowcount)) (dataByte p) ++ drop (setLength (p .rowcount)) d) ≡ written p d

@@ -12,8 +12,8 @@ use Rattle.set_plan.proofs.Accepted.{accepted, nodes-few, rows-few, rows-some}
 use Rattle.set_plan.proofs.Unused.{unused-refusal}
 use Rattle.set_reader.specs.Read.{setRefusal, readSet}
 use Rattle.set_reader.proofs.Accepted.{accepted-set}
-use Rattle.set_reader.proofs.Refusals.{answer-number}
-use Rattle.set_writer.specs.Write.{setLength, writeSet, writeRefusal, writeAnswer, written}
+use Rattle.set_reader.proofs.Refusals.{result-number}
+use Rattle.set_writer.specs.Write.{setLength, writeSet, writeRefusal, writeResult, written}
 use Rattle.set_writer.proofs.Kept.{length-kept, checks-kept, types-kept, revisions-kept, counts-kept, filler-kept}
 use Rattle.set_writer.proofs.ReadBack.{plan-back}
 use Rattle.set_writer.proofs.SetBytes.{set-long}
@@ -48,11 +48,11 @@ read-of-written p e =
 pub written-of-read : (s : List ℕ) → ((o : ℕ) → byte s o < 256) → readSet s .refusal ≡ 0 → writeSet (readSet s .plan) ≡ s
 unfolding readSet
 written-of-read s bytes e =
-    let z : setRefusal s ≡ 0 = sym (answer-number s) ∙ e in
+    let z : setRefusal s ≡ 0 = sym (result-number s) ∙ e in
     rw z (same-set s (accepted-set s z) bytes)
 
 -- the set stands at the front of the buffer that `write` leaves
 pub written-front : (p : Plan) (buffer : List ℕ) → writeRefusal p (length buffer) ≡ 0
-    → take (writeAnswer p (length buffer) .length) (written p buffer) ≡ writeSet p
-unfolding written writeAnswer
+    → take (writeResult p (length buffer) .length) (written p buffer) ≡ writeSet p
+unfolding written writeResult
 written-front p buffer e = rw e (take-at (writeSet p) (drop (setLength (p .rowcount)) buffer) (setLength (p .rowcount)) (set-long p))

@@ -13,7 +13,7 @@ use Rattle.base_bytes.specs.Bytes.{number}
 use Rattle.base_bytes.specs.Check.{blockCheck}
 use Rattle.set_plan.specs.declared.Plan.{Plan}
 use Rattle.set_record.specs.Entries.{entryByteAt, rowByteAt}
-use Rattle.set_writer.specs.Write.{planHead, planByte, rowsIn, messageHead, messageByte, dataByte, setLength, withChecks, writeSet}
+use Rattle.set_writer.specs.Write.{planHead, planByte, rowsInBlock, messageHead, messageByte, dataByte, setLength, withChecks, writeSet}
 use Rattle.set_writer.proofs.Blocks.{in-head, in-fours, in-filler}
 use Rattle.set_writer.proofs.SetLengths.{blockCount, length-least, length-blocks}
 use Rattle.set_writer.proofs.Checks.{firstChecks, length-checks, checks-append, checks-data, checks-stored, check-kept-all}
@@ -80,14 +80,14 @@ module _ (p : Plan) where
         let c : (512 * b + o) % 512 ≡ o = omega arith in
         set-data (512 * b + o) (omega (arith, length-blocks (p .rowcount))) (omega arith) ∙ rw (le-ltb (512 * b + o) 512 (omega arith), a, c)
 
-    pub message-head : (o : ℕ) → o < 8 → getD (writeSet p) (512 * b + o) 0 ≡ getD (messageHead (p .revision) (rowsIn (p .rowcount) b)) o 0
+    pub message-head : (o : ℕ) → o < 8 → getD (writeSet p) (512 * b + o) 0 ≡ getD (messageHead (p .revision) (rowsInBlock (p .rowcount) b)) o 0
     unfolding messageByte
-    message-head o h = message-byte o (omega arith) ∙ in-head (messageHead (p .revision) (rowsIn (p .rowcount) b)) 8 (λ i. rowByteAt (p .rows) (400 * (b - 1) + i)) (rowsIn (p .rowcount) b) o h
+    message-head o h = message-byte o (omega arith) ∙ in-head (messageHead (p .revision) (rowsInBlock (p .rowcount) b)) 8 (λ i. rowByteAt (p .rows) (400 * (b - 1) + i)) (rowsInBlock (p .rowcount) b) o h
 
-    pub message-row : (i : ℕ) → i < 4 * rowsIn (p .rowcount) b → rowsIn (p .rowcount) b ≤ 100 → getD (writeSet p) (512 * b + (8 + i)) 0 ≡ rowByteAt (p .rows) (400 * (b - 1) + i)
+    pub message-row : (i : ℕ) → i < 4 * rowsInBlock (p .rowcount) b → rowsInBlock (p .rowcount) b ≤ 100 → getD (writeSet p) (512 * b + (8 + i)) 0 ≡ rowByteAt (p .rows) (400 * (b - 1) + i)
     unfolding messageByte
-    message-row i h m = message-byte (8 + i) (omega arith) ∙ in-fours (messageHead (p .revision) (rowsIn (p .rowcount) b)) 8 (λ i. rowByteAt (p .rows) (400 * (b - 1) + i)) (rowsIn (p .rowcount) b) i h
+    message-row i h m = message-byte (8 + i) (omega arith) ∙ in-fours (messageHead (p .revision) (rowsInBlock (p .rowcount) b)) 8 (λ i. rowByteAt (p .rows) (400 * (b - 1) + i)) (rowsInBlock (p .rowcount) b) i h
 
-    pub message-filler : (o : ℕ) → 8 + 4 * rowsIn (p .rowcount) b ≤ o → o < 510 → getD (writeSet p) (512 * b + o) 0 ≡ 0
+    pub message-filler : (o : ℕ) → 8 + 4 * rowsInBlock (p .rowcount) b ≤ o → o < 510 → getD (writeSet p) (512 * b + o) 0 ≡ 0
     unfolding messageByte
-    message-filler o h m = message-byte o m ∙ in-filler (messageHead (p .revision) (rowsIn (p .rowcount) b)) 8 (λ i. rowByteAt (p .rows) (400 * (b - 1) + i)) (rowsIn (p .rowcount) b) o h
+    message-filler o h m = message-byte o m ∙ in-filler (messageHead (p .revision) (rowsInBlock (p .rowcount) b)) 8 (λ i. rowByteAt (p .rows) (400 * (b - 1) + i)) (rowsInBlock (p .rowcount) b) o h

@@ -18,7 +18,7 @@ use Rattle.set_plan.specs.Rules.{planRefusal}
 use Rattle.set_plan.proofs.Accepted.{accepted, nodes-few, rows-few}
 use Rattle.set_plan.proofs.Unused.{entry-same, row-same, unused-refusal}
 use Rattle.set_record.specs.Entries.{entryBytes, entryByteAt, rowBytes, rowByteAt}
-use Rattle.set_writer.specs.Write.{planHead, planByte, rowsIn, messageHead, messageByte, dataByte, setLength, withChecks, writeSet, writeRefusal, written}
+use Rattle.set_writer.specs.Write.{planHead, planByte, rowsInBlock, messageHead, messageByte, dataByte, setLength, withChecks, writeSet, writeRefusal, written}
 use Rattle.set_writer.proofs.Blocks.{block-same}
 use Rattle.set_writer.proofs.SetLengths.{length-least}
 use Rattle.set_writer.proofs.Refusals.{room}
@@ -31,8 +31,8 @@ module _ (p : Plan) where
         (λ i h. ap (λ (e : NodeEntry). getD (entryBytes e) (i % 4) 0) (entry-same p (i / 4) (omega arith) (omega arith))) o
 
     -- a row of message block b is one of the rows in use
-    used : (b i : ℕ) → 1 ≤ b → b < 3 → i < 4 * rowsIn (p .rowcount) b → (400 * (b - 1) + i) / 4 < p .rowcount
-    unfolding rowsIn
+    used : (b i : ℕ) → 1 ≤ b → b < 3 → i < 4 * rowsInBlock (p .rowcount) b → (400 * (b - 1) + i) / 4 < p .rowcount
+    unfolding rowsInBlock
     used b i x y h = go (eqb b 1) refl
       where
         go : (c : Bool) → eqb b 1 ≡ c → (400 * (b - 1) + i) / 4 < p .rowcount
@@ -48,8 +48,8 @@ module _ (p : Plan) where
 
     message-same : (b o : ℕ) → 1 ≤ b → b < 3 → messageByte (unusedZero p) b o ≡ messageByte p b o
     unfolding messageByte unusedZero
-    message-same b o x y = block-same (messageHead (p .revision) (rowsIn (p .rowcount) b)) 8
-        (λ i. rowByteAt (unusedZero p .rows) (400 * (b - 1) + i)) (λ i. rowByteAt (p .rows) (400 * (b - 1) + i)) (rowsIn (p .rowcount) b)
+    message-same b o x y = block-same (messageHead (p .revision) (rowsInBlock (p .rowcount) b)) 8
+        (λ i. rowByteAt (unusedZero p .rows) (400 * (b - 1) + i)) (λ i. rowByteAt (p .rows) (400 * (b - 1) + i)) (rowsInBlock (p .rowcount) b)
         (λ i h. ap (λ (r : Row). getD (rowBytes r) ((400 * (b - 1) + i) % 4) 0) (row-same p ((400 * (b - 1) + i) / 4) (omega (arith, used b i x y h)) (used b i x y h))) o
 
     data-same : (o : ℕ) → o < 1536 → dataByte (unusedZero p) o ≡ dataByte p o

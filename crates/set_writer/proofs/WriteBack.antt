@@ -15,13 +15,13 @@ use Rattle.base_lists.proofs.AllAny.{all-at, and-l, and-r, halves}
 use Rattle.base_lists.proofs.Tables.{getD-tab}
 use Rattle.base_bytes.specs.Bytes.{byte, number, highByte, lowByte}
 use Rattle.base_bytes.proofs.Halves.{high-at, low-at}
-use Rattle.set_plan.specs.Rules.{inRange}
+use Rattle.set_plan.specs.Rules.{between}
 use Rattle.set_plan.proofs.Accepted.{Accepted, accepted, nodes-few, rows-few}
 use Rattle.set_record.specs.Entries.{timesFrom, entryByteAt, rowByteAt}
 use Rattle.set_reader.specs.Layout.{oneMessageBlock, rowcountOf, planOf}
 use Rattle.set_reader.specs.Rules.{eachBlock, lengthRight, checkRight, checksRight, blockType, typeRight, typesRight, revisionSame, revisionsSame, countsRight, messageNamed, named, fillerAt, fillerRight}
 use Rattle.set_reader.proofs.Accepted.{AcceptedSet}
-use Rattle.set_writer.specs.Write.{planHead, planByte, rowsIn, messageHead, messageByte, dataByte, setLength, writeSet}
+use Rattle.set_writer.specs.Write.{planHead, planByte, rowsInBlock, messageHead, messageByte, dataByte, setLength, writeSet}
 use Rattle.set_writer.proofs.Blocks.{block-is}
 use Rattle.set_writer.proofs.SetLengths.{blockCount, length-blocks}
 use Rattle.set_writer.proofs.Checks.{check-ext}
@@ -55,15 +55,15 @@ module _ (s : List ℕ) (r : AcceptedSet s) where
   size-of = go (eqb (length s) 1024) refl (r .size) (r .counts)
     where
       go : (b : Bool) → eqb (length s) 1024 ≡ b → (b || eqb (length s) 1536) ≡ true
-          → (inRange 1 100 (byte s 516) && (b || eqb (byte s 516) 100 && inRange 1 100 (byte s 1028))) ≡ true → Short s ⊎ Long s
+          → (between 1 100 (byte s 516) && (b || eqb (byte s 516) 100 && between 1 100 (byte s 1028))) ≡ true → Short s ⊎ Long s
       go true e u v =
           let few : byte s 516 ≤ 100 = search halves in
           let c : planOf s .rowcount ≡ byte s 516 = rw e in
           inl (record { long = eqb-true _ _ e; count = c; few = few; blocks = rw (c, le-leb _ _ few) })
       go false e u v =
-          let w : (eqb (byte s 516) 100 && inRange 1 100 (byte s 1028)) ≡ true = and-r (inRange 1 100 (byte s 516)) (eqb (byte s 516) 100 && inRange 1 100 (byte s 1028)) v in
-          let full : byte s 516 ≡ 100 = eqb-true (byte s 516) 100 (and-l (eqb (byte s 516) 100) (inRange 1 100 (byte s 1028)) w) in
-          let i : inRange 1 100 (byte s 1028) ≡ true = and-r (eqb (byte s 516) 100) (inRange 1 100 (byte s 1028)) w in
+          let w : (eqb (byte s 516) 100 && between 1 100 (byte s 1028)) ≡ true = and-r (between 1 100 (byte s 516)) (eqb (byte s 516) 100 && between 1 100 (byte s 1028)) v in
+          let full : byte s 516 ≡ 100 = eqb-true (byte s 516) 100 (and-l (eqb (byte s 516) 100) (between 1 100 (byte s 1028)) w) in
+          let i : between 1 100 (byte s 1028) ≡ true = and-r (eqb (byte s 516) 100) (between 1 100 (byte s 1028)) w in
           let some : 1 ≤ byte s 1028 = leb-true 1 (byte s 1028) (and-l (leb 1 (byte s 1028)) (leb (byte s 1028) 100) i) in
           let c : planOf s .rowcount ≡ 100 + byte s 1028 = rw e in
           inr (record { long = eqb-true _ _ u; count = c; full = full; some = some; blocks = rw (c, lt-leb (100 + byte s 1028) 100 (omega arith)) })
@@ -169,19 +169,19 @@ module _ (s : List ℕ) (r : AcceptedSet s) where
 
     -- a message block
     module _ (b : ℕ) (low : 1 ≤ b) (high : b < blockCount (planOf s .rowcount)) where
-      rows-is : (rowsIn (planOf s .rowcount) b ≡ byte s (512 * b + 4)) × (byte s (512 * b + 4) ≤ 100)
-      unfolding rowsIn
+      rows-is : (rowsInBlock (planOf s .rowcount) b ≡ byte s (512 * b + 4)) × (byte s (512 * b + 4) ≤ 100)
+      unfolding rowsInBlock
       rows-is = ⊎-elim short-set long-set size-of
         where
-          short-set : Short s → (rowsIn (planOf s .rowcount) b ≡ byte s (512 * b + 4)) × (byte s (512 * b + 4) ≤ 100)
+          short-set : Short s → (rowsInBlock (planOf s .rowcount) b ≡ byte s (512 * b + 4)) × (byte s (512 * b + 4) ≤ 100)
           short-set w =
               let e : b ≡ 1 = omega arith in
               rw (e, w .count) (omega arith, w .few)
 
-          long-set : Long s → (rowsIn (planOf s .rowcount) b ≡ byte s (512 * b + 4)) × (byte s (512 * b + 4) ≤ 100)
+          long-set : Long s → (rowsInBlock (planOf s .rowcount) b ≡ byte s (512 * b + 4)) × (byte s (512 * b + 4) ≤ 100)
           long-set w = go (eqb b 1) refl
             where
-              go : (c : Bool) → eqb b 1 ≡ c → (rowsIn (planOf s .rowcount) b ≡ byte s (512 * b + 4)) × (byte s (512 * b + 4) ≤ 100)
+              go : (c : Bool) → eqb b 1 ≡ c → (rowsInBlock (planOf s .rowcount) b ≡ byte s (512 * b + 4)) × (byte s (512 * b + 4) ≤ 100)
               go true u =
                   let e : b ≡ 1 = eqb-true _ _ u in
                   rw (e, w .count) (omega arith, omega arith)

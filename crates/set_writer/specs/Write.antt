@@ -1,4 +1,4 @@
--- The bytes of a plan's set, and what the writer answers and leaves in a buffer.
+-- The bytes of a plan's set, and what a write gives and leaves in a buffer.
 use Prim.Native.Nat.{ℕ, _+_, _*_, _-_, _/_, _%_, min}
 use mathlib.Core.List.{List, [], _∷_, _++_}
 use lib.ListN.{length, getD, set, drop, replicate}
@@ -11,7 +11,7 @@ use Rattle.set_plan.specs.declared.Plan.{Plan}
 use Rattle.set_plan.specs.Limits.{blockRows}
 use Rattle.set_plan.specs.Rules.{planRefusal}
 use Rattle.set_record.specs.Entries.{timesBytes, entryByteAt, rowByteAt}
-use Rattle.set_writer.specs.declared.WriteAnswer.{WriteAnswer}
+use Rattle.set_writer.specs.declared.WriteResult.{WriteResult}
 
 -- the first 32 bytes of the plan block: "0 = 50 hex; 1 = 1; 2-3 revision ..; 4 = N ..; 6-19 seven times", and "byte 5" the profile
 unfoldable pub planHead : Plan → List ℕ
@@ -27,8 +27,8 @@ unfoldable pub planByte : Plan → ℕ → ℕ
 planByte p o = blockByte (planHead p) 32 (entryByteAt (p .nodes)) (p .nodecount) o
 
 -- rows in message block b, 1 or 2: "1 to 100, exactly 100 in the first of two"
-unfoldable pub rowsIn : ℕ → ℕ → ℕ
-rowsIn rowcount b = ifElse (eqb b 1) (min rowcount blockRows) (rowcount - blockRows)
+unfoldable pub rowsInBlock : ℕ → ℕ → ℕ
+rowsInBlock rowcount b = ifElse (eqb b 1) (min rowcount blockRows) (rowcount - blockRows)
 
 -- the first 8 bytes of a message block: "0 = 4D hex; 1 = 1; 2-3 the plan's revision; 4 = rows"
 unfoldable pub messageHead : ℕ → ℕ → List ℕ
@@ -37,7 +37,7 @@ messageHead revision rows = 0x4d ∷ 1 ∷ twoBytes revision ++ rows ∷ 0 ∷ 0
 -- of message block b: "from 8, rows of 4 bytes"
 unfoldable pub messageByte : Plan → ℕ → ℕ → ℕ
 messageByte p b o =
-    blockByte (messageHead (p .revision) (rowsIn (p .rowcount) b)) 8 (λ i. rowByteAt (p .rows) (4 * blockRows * (b - 1) + i)) (rowsIn (p .rowcount) b) o
+    blockByte (messageHead (p .revision) (rowsInBlock (p .rowcount) b)) 8 (λ i. rowByteAt (p .rows) (4 * blockRows * (b - 1) + i)) (rowsInBlock (p .rowcount) b) o
 
 -- byte o of the set, checks left 0: "512-byte blocks: one plan block, then one or two message blocks"
 unfoldable pub dataByte : Plan → ℕ → ℕ
@@ -65,8 +65,8 @@ unfoldable pub writeRefusal : Plan → ℕ → ℕ
 writeRefusal p room = ifElse (eqb (planRefusal p) 0) (ifElse (ltb room (setLength (p .rowcount))) 10 0) (planRefusal p)
 
 -- "returns the set's length"; 0 where it is refused
-unfoldable pub writeAnswer : Plan → ℕ → WriteAnswer
-writeAnswer p room =
+unfoldable pub writeResult : Plan → ℕ → WriteResult
+writeResult p room =
     ifElse (eqb (writeRefusal p room) 0) (record { refusal = 0; length = setLength (p .rowcount) }) (record { refusal = writeRefusal p room; length = 0 })
 
 -- the buffer at exit: "leaves bytes past the set as they were"; "a refused write leaves the buffer untouched"

@@ -9,7 +9,7 @@ ghost use Rattle.base_bytes.specs.Limits.{blockLength};
 ghost use Rattle.set_plan.specs.Limits.{maxNodes, maxRows, blockRows};
 ghost use Rattle.set_record.specs.Offsets.{recordLength};
 ghost use Rattle.set_record.specs.Record.{recordOf};
-ghost use Rattle.set_writer.specs.Write.{planHead, rowsIn, messageHead, messageByte, dataByte, setLength, withCheck, withChecks};
+ghost use Rattle.set_writer.specs.Write.{planHead, rowsInBlock, messageHead, messageByte, dataByte, setLength, withCheck, withChecks};
 use base_bytes::BLOCK_LENGTH;
 use base_bytes::block_check;
 use base_bytes::put;
@@ -66,9 +66,9 @@ fn plan_head(plan: &[u8]) -> [u8; ENTRIES_AT]
 }
 
 // Rows in message block b, 1 or 2.
-fn rows_in(count: u16, b: usize) -> u16
+fn rows_in_block(count: u16, b: usize) -> u16
     requires { ⌜ (1 ≤ b) × (b < 3) × (count ≤ maxRows) ⌝ }
-    ensures { λ r. ⌜ (r ≡ rowsIn count b) × (r ≤ blockRows) × (blockRows * (b - 1) + r ≤ maxRows) ⌝ }
+    ensures { λ r. ⌜ (r ≡ rowsInBlock count b) × (r ≤ blockRows) × (blockRows * (b - 1) + r ≤ maxRows) ⌝ }
 {
     let first = least(count as usize, Plan::BLOCK_ROWS as usize) as u16;
     if b == 1 { first } else { count - first }
@@ -76,9 +76,9 @@ fn rows_in(count: u16, b: usize) -> u16
 
 fn message_head(revision: u16, rowcount: u16, b: usize) -> [u8; ROWS_AT]
     requires { ⌜ (1 ≤ b) × (b < 3) × (rowcount ≤ maxRows) ⌝ }
-    ensures { λ r. ⌜ r ≡ messageHead revision (rowsIn rowcount b) ⌝ }
+    ensures { λ r. ⌜ r ≡ messageHead revision (rowsInBlock rowcount b) ⌝ }
 {
-    let rows = rows_in(rowcount, b);
+    let rows = rows_in_block(rowcount, b);
     [
         0x4d,
         1,
@@ -112,7 +112,7 @@ fn put_message(plan: &[u8], buffer: &mut [u8], b: usize)
     ensures { λ _. ⌜ Put (blockLength * b) blockLength (messageByte (recordOf (now (plan .entry))) b) (now (buffer .entry)) (now (buffer .exit)) ⌝ }
 {
     let rowcount = set_record::row_count(plan);
-    let end = 4 * (rows_in(rowcount, b) as usize);
+    let end = 4 * (rows_in_block(rowcount, b) as usize);
     let first = set_record::ROWS_AT + 4 * (Plan::BLOCK_ROWS as usize) * (b - 1);
     let head = message_head(set_record::revision_of(plan), rowcount, b);
     put(buffer, BLOCK_LENGTH * b, &head[..]);

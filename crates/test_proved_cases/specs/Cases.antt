@@ -6,7 +6,7 @@ use mathlib.Core.List.{List, [], _∷_}
 use lib.ListN.{set, take, replicate}
 use Rattle.machine_state.specs.declared.State.{State}
 use Rattle.set_plan.specs.declared.Plan.{Plan}
-use Rattle.set_reader.specs.declared.ReadAnswer.{ReadAnswer}
+use Rattle.set_reader.specs.declared.ReadResult.{ReadResult}
 use Rattle.set_reader.specs.Read.{refused, readSet}
 use Rattle.set_writer.specs.Write.{withCheck}
 use Rattle.machine_master.specs.declared.Phase.{Phase}
@@ -22,7 +22,7 @@ use Rattle.test_proved_cases.specs.SetT.{setT, planT, planWith}
 -- one case: what is done, and the whole answer that the requirements give
 pub data Case : Type 0 where
   -- these bytes are read
-  Reads : List ℕ → ReadAnswer → Case
+  Reads : List ℕ → ReadResult → Case
   -- under set T's plan this master is handed an event, and events after it; the reply to the last
   Steps : Master → Event → List Event → Reply → Case
 
@@ -45,7 +45,7 @@ AllCasesHold (e ∷ cases) = CaseHolds e × AllCasesHold cases
 abbrev pub changed : ℕ → ℕ → List ℕ
 changed offset byte = withCheck (withCheck (set setT offset byte) 0) 1
 
-abbrev pub accepted : Plan → ReadAnswer
+abbrev pub accepted : Plan → ReadResult
 accepted plan = record { refusal = 0; plan = plan }
 
 -- a permitting master in Normal, with node 0's permission and cause and the last count of ReqId 16, after so many ticks

@@ -17,10 +17,10 @@ returns : tie.Need-returns
 returns c =
     let a = c .before .before .before .before .before .args in
     rw (c .refuse .ensures, c .before .before .request-refusal .ensures)
-    (request-refused (a .identity) (a .address) (a .request .now) (a .answer .now) (λ e. c .before .if1 .taken (c .before .before .request-refusal .ensures ∙ e)))
+    (request-refused (a .identity) (a .address) (a .request .now) (a .response .now) (λ e. c .before .if1 .taken (c .before .before .request-refusal .ensures ∙ e)))
 
-answer-to-requires : tie.Need-answer-to-requires
-answer-to-requires c κs = search needs
+response-to-requires : tie.Need-response-to-requires
+response-to-requires c κs = search needs
 
 cast-length : tie.Need-cast-length
 cast-length c = search needs
@@ -32,16 +32,16 @@ returns-2 : tie.Need-returns-2
 returns-2 c =
     let a = c .before .before .before .before .before .before .before .before .before .args in
     rw (c .refuse2 .ensures)
-    (too-long (a .identity) (a .address) (a .request .now) (a .answer .now) (sym (c .before .before .before .before .before .before .request-refusal .ensures) ∙ c .before .before .before .before .before .if1 .left)
-    (omega (arith, as-long (a .identity) (a .request .now) _ (c .before .before .before .before .answer-to .ensures))))
+    (too-long (a .identity) (a .address) (a .request .now) (a .response .now) (sym (c .before .before .before .before .before .before .request-refusal .ensures) ∙ c .before .before .before .before .before .if1 .left)
+    (omega (arith, as-long (a .identity) (a .request .now) _ (c .before .before .before .before .response-to .ensures))))
 
 array-share-prefix-bytes : tie.Need-array-share-prefix-bytes
-array-share-prefix-bytes c = within (c .before .before .before .before .before .before .before .before .before .args .identity) (c .before .before .before .before .before .before .before .before .before .args .request .now) _ (c .before .before .before .before .answer-to .ensures)
+array-share-prefix-bytes c = within (c .before .before .before .before .before .before .before .before .before .args .identity) (c .before .before .before .before .before .before .before .before .before .args .request .now) _ (c .before .before .before .before .response-to .ensures)
 
 slice-aggregate-put : tie.Need-slice-aggregate-put
 slice-aggregate-put c =
     let a = c .before .before .before .before .before .before .before .before .before .before .args in
-    sym (length-take-le _ _ (within (a .identity) (a .request .now) _ (c .before .before .before .before .before .answer-to .ensures)))
+    sym (length-take-le _ _ (within (a .identity) (a .request .now) _ (c .before .before .before .before .before .response-to .ensures)))
 
 put-requires : tie.Need-put-requires
 put-requires c κs = search needs
@@ -55,10 +55,10 @@ same-length c = search needs
 returns-3 : tie.Need-returns-3
 returns-3 c =
     let a = c .before .before .before .before .before .before .before .before .before .before .before .before .before .before .args in
-    let e = c .before .before .before .before .before .before .before .before .before .answer-to .ensures in
+    let e = c .before .before .before .before .before .before .before .before .before .response-to .ensures in
     let n = as-long (a .identity) (a .request .now) _ e in
     rw (c .address-after .ensures, c .before .before .before .put .ensures, front (a .identity) (a .request .now) _ e, n)
-    (done (a .identity) (a .address) (a .request .now) (a .answer .now) (sym (c .before .before .before .before .before .before .before .before .before .before .before .request-refusal .ensures) ∙ c .before .before .before .before .before .before .before .before .before .before .if1 .left) (omega (arith, n)))
+    (done (a .identity) (a .address) (a .request .now) (a .response .now) (sym (c .before .before .before .before .before .before .before .before .before .before .before .request-refusal .ensures) ∙ c .before .before .before .before .before .before .before .before .before .before .if1 .left) (omega (arith, n)))
 
 pub configure-spec : {M : Type 1} → statement M
 configure-spec =
@@ -67,7 +67,7 @@ configure-spec =
     request-refusal-requires
     refuse-requires
     returns
-    answer-to-requires
+    response-to-requires
     cast-length
     refuse-requires-2
     returns-2

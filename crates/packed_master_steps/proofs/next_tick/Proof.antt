@@ -1,5 +1,5 @@
 use borrow.Author.Needs.{needs}
-use Rattle.packed_master_steps.specs.InPlace.{ticked}
+use Rattle.packed_master_steps.specs.InPlace.{tickNumberUp}
 use Rattle.packed_master_steps.proofs.next_tick.Statement.{statement}
 use Rattle.packed_master_steps.proofs.next_tick.Tie as tie
 
@@ -40,7 +40,7 @@ same-length : tie.Need-same-length
 same-length c = search needs
 
 returns : tie.Need-returns
-unfolding ticked
+unfolding tickNumberUp
 returns c =
     rw (
       c .before .before .put .ensures,

@@ -1,5 +1,5 @@
 use mathlib.Core.Path.{ap}
-use Rattle.set_reader.specs.declared.ReadAnswer.{ReadAnswer}
+use Rattle.set_reader.specs.declared.ReadResult.{ReadResult}
 use borrow.Author.Needs.{needs}
 use Rattle.program_drill.proofs.drill.Statement.{statement}
 use Rattle.program_drill.proofs.drill.Tie as tie
@@ -14,10 +14,10 @@ run-requires : tie.Need-run-requires
 run-requires c κs = search needs
 
 returns : tie.Need-returns
-returns c = ap (λ (x : ReadAnswer). x .refusal) (c .before .before .before .before .before .read-plan .ensures)
+returns c = ap (λ (x : ReadResult). x .refusal) (c .before .before .before .before .before .read-plan .ensures)
 
 returns-2 : tie.Need-returns-2
-returns-2 c = ap (λ (x : ReadAnswer). x .refusal) (c .before .before .before .read-plan .ensures)
+returns-2 c = ap (λ (x : ReadResult). x .refusal) (c .before .before .before .read-plan .ensures)
 
 pub drill-spec : {M : Type 1} → statement M
 drill-spec = tie.close (tie.spec read-plan-requires start-requires run-requires returns returns-2)

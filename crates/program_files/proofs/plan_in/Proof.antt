@@ -23,7 +23,7 @@ read-requires : tie.Need-read-requires
 read-requires c κs = search needs
 
 returns : tie.Need-returns
-returns c = (_, ap (λ answer. answer .plan) (c .before .read .ensures))
+returns c = (_, ap (λ result. result .plan) (c .before .read .ensures))
 
 pub plan-in-spec : {M : Type 1} → statement M
 plan-in-spec =

@@ -6,7 +6,7 @@ use Rattle.set_plan.proofs.Accepted.{accepted, nodes-few, rows-few}
 use Rattle.set_record.specs.Record.{recordOf}
 use Rattle.set_record.proofs.Records.{accepted-long}
 use Rattle.set_writer.specs.Write.{setLength, writeRefusal, withChecks}
-use Rattle.set_writer.proofs.Refusals.{room, refused-answer, refused-buffer, done-answer, done-buffer}
+use Rattle.set_writer.proofs.Refusals.{room, refused-result, refused-buffer, done-result, done-buffer}
 use borrow.Author.Needs.{needs}
 use Rattle.set_writer.proofs.write_record.Statement.{statement}
 use Rattle.set_writer.proofs.write_record.Tie as tie
@@ -18,7 +18,7 @@ write-refusal-requires : tie.Need-write-refusal-requires
 write-refusal-requires c κs = search needs
 
 returns : tie.Need-returns
-returns c = (refused-answer _ _ _ (c .before .write-refusal .ensures) (c .if1 .taken), refused-buffer _ _ _ (c .before .write-refusal .ensures) (c .if1 .taken))
+returns c = (refused-result _ _ _ (c .before .write-refusal .ensures) (c .if1 .taken), refused-buffer _ _ _ (c .before .write-refusal .ensures) (c .if1 .taken))
 
 row-count-requires : tie.Need-row-count-requires
 row-count-requires c κs = search needs
@@ -47,7 +47,7 @@ returns-2 c =
     let p = recordOf (c .before .before .before .before .before .before .before .before .before .before .before .before .before .before .args .plan .now) in
     let e = none (c .before .before .before .before .before .before .before .before .before .before) in
     let r = c .before .before .before .before .before .before .before .before .before .row-count .ensures in
-    (done-answer p _ _ e (rw r at (c .before .before .before .before .before .before .before .before .set-length .ensures)), rw r at (c .before .before .put-checks .ensures) ∙ ap (withChecks (p .rowcount)) (c .before .before .before .before .before .before .put-data .ensures) ∙ done-buffer p (c .before .before .before .before .before .before .before .before .before .before .before .before .before .before .args .buffer .now) e)
+    (done-result p _ _ e (rw r at (c .before .before .before .before .before .before .before .before .set-length .ensures)), rw r at (c .before .before .put-checks .ensures) ∙ ap (withChecks (p .rowcount)) (c .before .before .before .before .before .before .put-data .ensures) ∙ done-buffer p (c .before .before .before .before .before .before .before .before .before .before .before .before .before .before .args .buffer .now) e)
 
 pub write-record-spec : {M : Type 1} → statement M
 write-record-spec =

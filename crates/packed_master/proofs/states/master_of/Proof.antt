@@ -4,11 +4,11 @@ use borrow.Author.Needs.{needs}
 use Rattle.packed_master.proofs.states.master_of.Statement.{statement}
 use Rattle.packed_master.proofs.states.master_of.Tie as tie
 
-no-master-requires : tie.Need-no-master-requires
-no-master-requires c κs = search needs
+master-out-of-range-requires : tie.Need-master-out-of-range-requires
+master-out-of-range-requires c κs = search needs
 
 returns : tie.Need-returns
-returns c = rw (c .no-master .ensures, other-length _ (c .before .if1 .taken))
+returns c = rw (c .master-out-of-range .ensures, other-length _ (c .before .if1 .taken))
 
 is-master-requires : tie.Need-is-master-requires
 is-master-requires c κs = search needs
@@ -16,8 +16,8 @@ is-master-requires c κs = search needs
 master-from-requires : tie.Need-master-from-requires
 master-from-requires c κs = search needs
 
-no-master-requires-2 : tie.Need-no-master-requires-2
-no-master-requires-2 c κs = search needs
+master-out-of-range-requires-2 : tie.Need-master-out-of-range-requires-2
+master-out-of-range-requires-2 c κs = search needs
 
 returns-2 : tie.Need-returns-2
 returns-2 c = rw (
@@ -28,7 +28,7 @@ returns-2 c = rw (
 
 returns-3 : tie.Need-returns-3
 returns-3 c = rw (
-  c .no-master2 .ensures,
+  c .master-out-of-range2 .ensures,
   ← c .before .before .is-master .ensures,
   c .before .if2 .left,
 )
@@ -37,10 +37,10 @@ pub master-of-spec : {M : Type 1} → statement M
 master-of-spec =
     tie.close
     (tie.spec
-    no-master-requires
+    master-out-of-range-requires
     returns
     is-master-requires
     master-from-requires
-    no-master-requires-2
+    master-out-of-range-requires-2
     returns-2
     returns-3)

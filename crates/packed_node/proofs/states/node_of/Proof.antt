@@ -8,8 +8,8 @@ is-node-requires c κs = search needs
 node-from-requires : tie.Need-node-from-requires
 node-from-requires c κs = search needs
 
-no-node-requires : tie.Need-no-node-requires
-no-node-requires c κs = search needs
+node-out-of-range-requires : tie.Need-node-out-of-range-requires
+node-out-of-range-requires c κs = search needs
 
 returns : tie.Need-returns
 returns c =
@@ -22,11 +22,11 @@ returns c =
 returns-2 : tie.Need-returns-2
 returns-2 c =
     rw (
-      c .no-node .ensures,
+      c .node-out-of-range .ensures,
       ← c .before .before .is-node .ensures,
       c .before .if1 .left,
     )
 
 pub node-of-spec : {M : Type 1} → statement M
 node-of-spec =
-    tie.close (tie.spec is-node-requires node-from-requires no-node-requires returns returns-2)
+    tie.close (tie.spec is-node-requires node-from-requires node-out-of-range-requires returns returns-2)

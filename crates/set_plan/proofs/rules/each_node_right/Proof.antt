@@ -38,8 +38,8 @@ returns c =
     let l = c .before .before .before .before .loop in
     sym (all-false _ _ (l .k) (omega arith) (wrong-entry _ _ (sym (c .before .entry-right .ensures) ∙ not-true _ (c .if1 .taken))))
 
-place-requires : tie.Need-place-requires Inv-loop μ-loop
-place-requires c κs = search needs
+table-index-requires : tie.Need-table-index-requires Inv-loop μ-loop
+table-index-requires c κs = search needs
 
 array-read-if2 : tie.Need-array-read-if2 Inv-loop μ-loop
 array-read-if2 c = search needs
@@ -48,8 +48,8 @@ returns-2 : tie.Need-returns-2 Inv-loop μ-loop
 returns-2 c =
     let l = c .before .before .before .before .before .before .loop in
     let nodes = c .before .before .before .before .before .before .before .args .t1 in
-    let e = c .before .place .ensures .0 in
-    sym (all-false _ _ (l .k) (omega arith) (again _ _ (ap (λ a. anyTo (hasAddress nodes a) (l .k)) (sym e) ∙ sym (l .inv .3 _ (c .before .place .ensures .1)) ∙ c .if2 .taken)))
+    let e = c .before .table-index .ensures .0 in
+    sym (all-false _ _ (l .k) (omega arith) (again _ _ (ap (λ a. anyTo (hasAddress nodes a) (l .k)) (sym e) ∙ sym (l .inv .3 _ (c .before .table-index .ensures .1)) ∙ c .if2 .taken)))
 
 array-write-taken : tie.Need-array-write-taken Inv-loop μ-loop
 array-write-taken c = search needs
@@ -65,13 +65,13 @@ unfolding hasAddress
 loop-again c =
     let l = c .before .before .before .before .before .before .loop in
     let nodes = c .before .before .before .before .before .before .before .args .t1 in
-    let e = c .before .place .ensures .0 in
+    let e = c .before .table-index .ensures .0 in
     let new : anyTo (hasAddress nodes (entryAt nodes (l .k) .address)) (l .k) ≡ false
-    = ap (λ a. anyTo (hasAddress nodes a) (l .k)) (sym e) ∙ sym (l .inv .3 _ (c .before .place .ensures .1)) ∙ c .if2 .left in (
+    = ap (λ a. anyTo (hasAddress nodes a) (l .k)) (sym e) ∙ sym (l .inv .3 _ (c .before .table-index .ensures .1)) ∙ c .if2 .left in (
       search needs,
       all-more _ _ (l .inv .1) (right-new _ _ (sym (c .before .before .before .entry-right .ensures) ∙ not-false _ (c .before .before .if1 .left)) new),
       simp length-set (search needs),
-      λ a q. marked-more (hasAddress nodes) (l .taken) (l .k) (c .before .place .result) (search needs)
+      λ a q. marked-more (hasAddress nodes) (l .taken) (l .k) (c .before .table-index .result) (search needs)
           (eq-eqb _ _ (sym e)) (λ i n. ne-eqb _ _ (λ w. n (sym w ∙ sym e))) (λ i b. l .inv .3 i (omega arith)) a (omega arith),
     )
 
@@ -91,7 +91,7 @@ each-node-right-spec =
     array-copy-out-entry
     entry-right-requires
     returns
-    place-requires
+    table-index-requires
     array-read-if2
     returns-2
     array-write-taken

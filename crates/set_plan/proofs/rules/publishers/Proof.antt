@@ -22,14 +22,14 @@ abbrev μ-loop : tie.MeasureT-loop
 loop-holds : tie.Need-loop-holds Inv-loop μ-loop
 loop-holds c = (search needs, refl, λ k p. getD-replicate 256 k false false p ∙ sym (any-none _))
 
-mul-place : tie.Need-mul-place Inv-loop μ-loop
-mul-place c = search needs
+mul-table-index : tie.Need-mul-table-index Inv-loop μ-loop
+mul-table-index c = search needs
 
-element-copy-out-place : tie.Need-element-copy-out-place Inv-loop μ-loop
-element-copy-out-place c = search needs
+element-copy-out-table-index : tie.Need-element-copy-out-table-index Inv-loop μ-loop
+element-copy-out-table-index c = search needs
 
-place-requires : tie.Need-place-requires Inv-loop μ-loop
-place-requires c κs = search needs
+table-index-requires : tie.Need-table-index-requires Inv-loop μ-loop
+table-index-requires c κs = search needs
 
 array-write-seen : tie.Need-array-write-seen Inv-loop μ-loop
 array-write-seen c = search needs
@@ -44,10 +44,10 @@ loop-again : tie.Need-loop-again Inv-loop μ-loop
 unfolding isFrom
 loop-again c =
     let l = c .before .before .loop in
-    let e = c .place .ensures .0 in (
+    let e = c .table-index .ensures .0 in (
       search needs,
       simp length-set (search needs),
-      λ k q. marked-more (isFrom (c .before .before .before .args .t1)) (l .seen) (l .j) (c .place .result) (search needs)
+      λ k q. marked-more (isFrom (c .before .before .before .args .t1)) (l .seen) (l .j) (c .table-index .result) (search needs)
           (eq-eqb _ _ (sym e)) (λ i n. ne-eqb _ _ (λ w. n (sym w ∙ sym e))) (λ i b. l .inv .2 i (omega arith)) k (omega arith),
     )
 
@@ -64,9 +64,9 @@ publishers-spec =
     Inv-loop
     μ-loop
     loop-holds
-    mul-place
-    element-copy-out-place
-    place-requires
+    mul-table-index
+    element-copy-out-table-index
+    table-index-requires
     array-write-seen
     add-j
     loop-less

@@ -4,7 +4,7 @@ use mathlib.Core.List.{[], _∷_}
 use borrow.Author.Tests.{not-true, not-false}
 use Rattle.base_lists.specs.Bounded.{ifElse}
 use Rattle.base_lists.specs.FirstBroken.{firstBroken}
-use Rattle.set_plan.specs.Rules.{inRange, planRefusal}
+use Rattle.set_plan.specs.Rules.{between, planRefusal}
 use Rattle.set_reader.specs.Layout.{planOf}
 use Rattle.set_reader.proofs.Content.{other-revision, wrong-count, plan-refused, filler-last}
 use borrow.Author.Needs.{needs}
@@ -27,7 +27,7 @@ returns-2 : tie.Need-returns-2
 returns-2 c =
     let p = planOf (c .before .before .before .before .before .before .args .s .now) in
     let is : c .before .before .before .before .before .before .args .refusal ≡ planRefusal p = search needs in
-    c .with-wrong-count .ensures ∙ ap (λ k. ifElse (inRange 4 6 k) k 7) is ∙ sym (wrong-count _ p (search needs) (sym (c .before .before .before .before .revisions-same .ensures) ∙ not-false _ (c .before .before .before .if1 .left)) (sym (c .before .before .counts-right .ensures) ∙ not-true _ (c .before .if2 .taken)))
+    c .with-wrong-count .ensures ∙ ap (λ k. ifElse (between 4 6 k) k 7) is ∙ sym (wrong-count _ p (search needs) (sym (c .before .before .before .before .revisions-same .ensures) ∙ not-false _ (c .before .before .before .if1 .left)) (sym (c .before .before .counts-right .ensures) ∙ not-true _ (c .before .if2 .taken)))
 
 returns-3 : tie.Need-returns-3
 returns-3 c =

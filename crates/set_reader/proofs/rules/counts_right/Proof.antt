@@ -16,18 +16,18 @@ byte-at-requires-2 c κs = search needs
 cast-second : tie.Need-cast-second
 cast-second c = search needs
 
-in-range-requires : tie.Need-in-range-requires
-in-range-requires c κs = search needs
+between-requires : tie.Need-between-requires
+between-requires c κs = search needs
 
-in-range-requires-2 : tie.Need-in-range-requires-2
-in-range-requires-2 c κs = search needs
+between-requires-2 : tie.Need-between-requires-2
+between-requires-2 c κs = search needs
 
 returns : tie.Need-returns
 unfolding countsRight
 returns c =
     rw (
-      c .in-range2 .ensures,
-      c .before .in-range .ensures,
+      c .between2 .ensures,
+      c .before .between .ensures,
       c .before .before .byte-at2 .ensures,
       c .before .before .before .byte-at .ensures,
     )
@@ -40,6 +40,6 @@ counts-right-spec =
     cast-first
     byte-at-requires-2
     cast-second
-    in-range-requires
-    in-range-requires-2
+    between-requires
+    between-requires-2
     returns)

@@ -4,14 +4,14 @@ use borrow.Author.Needs.{needs}
 use Rattle.set_reader.proofs.rules.with_wrong_count.Statement.{statement}
 use Rattle.set_reader.proofs.rules.with_wrong_count.Tie as tie
 
-in-range-requires : tie.Need-in-range-requires
-in-range-requires c κs = search needs
+between-requires : tie.Need-between-requires
+between-requires c κs = search needs
 
 returns : tie.Need-returns
-returns c = rw (sym (c .before .in-range .ensures) ∙ c .if1 .taken)
+returns c = rw (sym (c .before .between .ensures) ∙ c .if1 .taken)
 
 returns-2 : tie.Need-returns-2
-returns-2 c = rw (sym (c .before .in-range .ensures) ∙ c .if1 .left)
+returns-2 c = rw (sym (c .before .between .ensures) ∙ c .if1 .left)
 
 pub with-wrong-count-spec : {M : Type 1} → statement M
-with-wrong-count-spec = tie.close (tie.spec in-range-requires returns returns-2)
+with-wrong-count-spec = tie.close (tie.spec between-requires returns returns-2)

@@ -45,8 +45,8 @@ returns c =
     refuses-7 (rowsIn s) n (c .before .before .before .before .before .before .args .count) (all-false _ _ (l .j) (omega arith)
     (judged s (l .j) (omega (arith, l .inv .2)) (r .result) (r .ensures) n (l .before) false (l .inv .4) (sym (c .before .row-after .ensures) ∙ not-true _ (c .if1 .taken))))
 
-place-requires : tie.Need-place-requires Inv-loop μ-loop Inv-loop2 μ-loop2
-place-requires c κs = search needs
+table-index-requires : tie.Need-table-index-requires Inv-loop μ-loop Inv-loop2 μ-loop2
+table-index-requires c κs = search needs
 
 array-write-seen : tie.Need-array-write-seen Inv-loop μ-loop Inv-loop2 μ-loop2
 array-write-seen c = search needs
@@ -64,7 +64,7 @@ loop-again c =
     let s = c .before .before .before .before .before .before .before .args .bytes .now in
     let n = c .before .before .before .before .before .before .before .args .nodecount in
     let r = c .before .before .before .row-at in
-    let p = c .place .ensures in
+    let p = c .table-index .ensures in
     let h : l .j < 127 = omega (arith, l .inv .2) in
     let own = its-publisher s (l .j) h (r .result) (r .ensures) in (
       search needs,
@@ -73,7 +73,7 @@ loop-again c =
       all-more _ _ (l .inv .3) (judged s (l .j) h (r .result) (r .ensures) n (l .before) true (l .inv .4) (sym (c .before .before .row-after .ensures) ∙ not-false _ (c .before .if1 .left))),
       next-before s (l .j) h (r .result) (r .ensures),
       simp length-set (search needs),
-      λ k q. marked-more (isFrom (rowsIn s)) (l .seen) (l .j) (c .place .result) (search needs)
+      λ k q. marked-more (isFrom (rowsIn s)) (l .seen) (l .j) (c .table-index .result) (search needs)
           (eq-eqb _ _ (own ∙ sym (p .0))) (λ i w. ne-eqb _ _ (λ z. w (sym z ∙ own ∙ sym (p .0)))) (λ i b. l .inv .6 i (omega (arith, l .inv .5))) k (omega (arith, l .inv .5)),
     )
 
@@ -128,7 +128,7 @@ rows-refusal-spec =
     row-at-requires
     row-after-requires
     returns
-    place-requires
+    table-index-requires
     array-write-seen
     add-j
     loop-less

@@ -6,8 +6,8 @@ use Rattle.set_record.proofs.unpacking.plan_in.Tie as tie
 times-at-requires : tie.Need-times-at-requires
 times-at-requires c κs = search needs
 
-nodes-in-requires : tie.Need-nodes-in-requires
-nodes-in-requires c κs = search needs
+entries-in-requires : tie.Need-entries-in-requires
+entries-in-requires c κs = search needs
 
 rows-in-requires : tie.Need-rows-in-requires
 rows-in-requires c κs = search needs
@@ -29,4 +29,4 @@ returns c = cc
 
 pub plan-in-spec : {M : Type 1} → statement M
 plan-in-spec =
-    tie.close (tie.spec times-at-requires nodes-in-requires rows-in-requires revision-in-requires profile-in-requires node-count-in-requires row-count-in-requires returns)
+    tie.close (tie.spec times-at-requires entries-in-requires rows-in-requires revision-in-requires profile-in-requires node-count-in-requires row-count-in-requires returns)

@@ -4,8 +4,8 @@ use borrow.Author.Needs.{needs}
 use Rattle.set_writer.proofs.set_blocks.message_head.Statement.{statement}
 use Rattle.set_writer.proofs.set_blocks.message_head.Tie as tie
 
-rows-in-requires : tie.Need-rows-in-requires
-rows-in-requires c κs = search needs
+rows-in-block-requires : tie.Need-rows-in-block-requires
+rows-in-block-requires c κs = search needs
 
 cast-t6 : tie.Need-cast-t6
 cast-t6 c = search needs
@@ -21,4 +21,4 @@ unfolding messageHead
 returns c = cc
 
 pub message-head-spec : {M : Type 1} → statement M
-message-head-spec = tie.close (tie.spec rows-in-requires cast-t6 cast-t8 cast-t9 returns)
+message-head-spec = tie.close (tie.spec rows-in-block-requires cast-t6 cast-t8 cast-t9 returns)

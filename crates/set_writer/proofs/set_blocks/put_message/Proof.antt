@@ -8,8 +8,8 @@ use Rattle.set_writer.proofs.set_blocks.put_message.Tie as tie
 row-count-requires : tie.Need-row-count-requires
 row-count-requires c κs = search needs
 
-rows-in-requires : tie.Need-rows-in-requires
-rows-in-requires c κs = search needs
+rows-in-block-requires : tie.Need-rows-in-block-requires
+rows-in-block-requires c κs = search needs
 
 cast-end : tie.Need-cast-end
 cast-end c = search needs
@@ -89,14 +89,14 @@ same-length c = search needs
 returns : tie.Need-returns
 returns c =
     let e = c .before .before .before .before .before .before .before .before .before .before .before .before .before .before .before .before .before .row-count .ensures in
-    message-put (c .before .before .before .before .before .before .before .before .before .before .before .before .before .before .before .before .before .before .before .before .args .plan .now) (search needs) _ _ _ _ _ _ _ (search needs) (rw e at (c .before .before .before .before .before .before .before .before .before .before .before .before .before .before .before .before .rows-in .ensures .0)) (c .before .before .before .before .before .before .before .before .before .before .before .before .before .before .before .before .rows-in .ensures .1) (c .before .before .before .before .before .before .before .before .before .before .before .before .before .before .before .before .rows-in .ensures .2) (search needs) (c .before .before .before .before .before .before .before .before .before .before .before .before .before .before .message-head .ensures ∙ rw (c .before .before .before .before .before .before .before .before .before .before .before .before .before .before .before .revision-of .ensures, e)) (c .before .before .before .before .before .before .before .before .before .before .before .put .ensures) (c .before .before .before .before .before .before .put2 .ensures) (c .before .before .put-zeros .ensures)
+    message-put (c .before .before .before .before .before .before .before .before .before .before .before .before .before .before .before .before .before .before .before .before .args .plan .now) (search needs) _ _ _ _ _ _ _ (search needs) (rw e at (c .before .before .before .before .before .before .before .before .before .before .before .before .before .before .before .before .rows-in-block .ensures .0)) (c .before .before .before .before .before .before .before .before .before .before .before .before .before .before .before .before .rows-in-block .ensures .1) (c .before .before .before .before .before .before .before .before .before .before .before .before .before .before .before .before .rows-in-block .ensures .2) (search needs) (c .before .before .before .before .before .before .before .before .before .before .before .before .before .before .message-head .ensures ∙ rw (c .before .before .before .before .before .before .before .before .before .before .before .before .before .before .before .revision-of .ensures, e)) (c .before .before .before .before .before .before .before .before .before .before .before .put .ensures) (c .before .before .before .before .before .before .put2 .ensures) (c .before .before .put-zeros .ensures)
 
 pub put-message-spec : {M : Type 1} → statement M
 put-message-spec =
     tie.close
     (tie.spec
     row-count-requires
-    rows-in-requires
+    rows-in-block-requires
     cast-end
     mul-end
     cast-first

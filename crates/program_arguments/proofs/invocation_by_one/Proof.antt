@@ -1,7 +1,7 @@
 use borrow.Author.Needs.{needs}
 use borrow.Author.Tests.{eq-eqb, ne-eqb}
-use Rattle.program_arguments.proofs.asked_by_one.Statement.{statement}
-use Rattle.program_arguments.proofs.asked_by_one.Tie as tie
+use Rattle.program_arguments.proofs.invocation_by_one.Statement.{statement}
+use Rattle.program_arguments.proofs.invocation_by_one.Tie as tie
 
 slice-aggregate-same : tie.Need-slice-aggregate-same
 slice-aggregate-same c = search needs
@@ -47,8 +47,8 @@ returns-4 c =
       ne-eqb _ _ (c .if3 .left),
     )
 
-pub asked-by-one-spec : {M : Type 1} → statement M
-asked-by-one-spec =
+pub invocation-by-one-spec : {M : Type 1} → statement M
+invocation-by-one-spec =
     tie.close
     (tie.spec
     slice-aggregate-same

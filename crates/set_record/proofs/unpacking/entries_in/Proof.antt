@@ -7,8 +7,8 @@ use Rattle.base_lists.proofs.Tables.{filled-more, tab-of}
 use Rattle.set_plan.specs.Record.{zeroEntry}
 use Rattle.set_record.specs.Record.{recordEntry}
 use borrow.Author.Needs.{needs}
-use Rattle.set_record.proofs.unpacking.nodes_in.Statement.{statement}
-use Rattle.set_record.proofs.unpacking.nodes_in.Tie as tie
+use Rattle.set_record.proofs.unpacking.entries_in.Statement.{statement}
+use Rattle.set_record.proofs.unpacking.entries_in.Tie as tie
 
 abbrev Inv-loop : tie.InvT-loop
 Inv-loop bytes nodes₀ k₀ nodes k = (k ≤ 16) × (length bytes ≡ 592) × (length nodes ≡ 16) × ((i : ℕ) → i < k → getD nodes i zeroEntry ≡ recordEntry bytes i)
@@ -49,8 +49,8 @@ loop-again c =
 returns : tie.Need-returns Inv-loop μ-loop
 returns c = tab-of zeroEntry 16 _ _ (c .before .loop .inv .2) (λ i p. c .before .loop .inv .3 i (omega arith))
 
-pub nodes-in-spec : {M : Type 1} → statement M
-nodes-in-spec =
+pub entries-in-spec : {M : Type 1} → statement M
+entries-in-spec =
     tie.close
     (tie.spec
     Inv-loop

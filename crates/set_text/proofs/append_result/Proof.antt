@@ -1,10 +1,10 @@
 -- By the refusal. Assumes nothing.
 use borrow.Author.Tests.{eq-eqb, ne-eqb}
 use Rattle.base_text.proofs.Appends.{appended-as}
-use Rattle.set_text.specs.Show.{answerText}
+use Rattle.set_text.specs.Show.{resultText}
 use borrow.Author.Needs.{needs}
-use Rattle.set_text.proofs.append_answer.Statement.{statement}
-use Rattle.set_text.proofs.append_answer.Tie as tie
+use Rattle.set_text.proofs.append_result.Statement.{statement}
+use Rattle.set_text.proofs.append_result.Tie as tie
 
 append-plan-requires : tie.Need-append-plan-requires
 append-plan-requires c κs = search needs
@@ -16,18 +16,18 @@ same-length : tie.Need-same-length
 same-length c = search needs
 
 returns : tie.Need-returns
-unfolding answerText
+unfolding resultText
 returns c = appended-as (rw (eq-eqb _ _ (c .before .before .before .before .if1 .taken))) (c .before .before .append-plan .ensures)
 
 same-length-2 : tie.Need-same-length-2
 same-length-2 c = search needs
 
 returns-2 : tie.Need-returns-2
-unfolding answerText
+unfolding resultText
 returns-2 c = appended-as (rw (ne-eqb _ _ (c .before .before .before .before .if1 .left))) (c .before .before .append-refusal .ensures)
 
-pub append-answer-spec : {M : Type 1} → statement M
-append-answer-spec =
+pub append-result-spec : {M : Type 1} → statement M
+append-result-spec =
     tie.close
     (tie.spec
     append-plan-requires
