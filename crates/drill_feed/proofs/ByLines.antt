@@ -15,9 +15,10 @@ use Rattle.drill_line.specs.Words.{noNumber, longer, cut}
 use Rattle.drill_line.specs.Parse.{parseLine}
 use Rattle.drill_line.proofs.Long.{enough}
 use Rattle.drill_feed.specs.declared.Drill.{Drill}
-use Rattle.drill_feed.specs.Feed.{room, next, worldAfter, lineText, linesText, drillText, emptyHeld, holdByte, holdAll, started, heldLine, ended, lineSaid, keeps, fed, said, lastSaid, allSaid}
+use Rattle.drill_text.specs.Lines.{nextLine}
+use Rattle.drill_feed.specs.Feed.{room, worldAfter, lineText, linesText, drillText, emptyHeld, holdByte, holdAll, started, heldLine, ended, linePrinted, keeps, fed, printed, lastPrinted, allPrinted}
 use Rattle.drill_feed.proofs.Holding.{held-line, hold-one, held-none}
-use Rattle.drill_feed.proofs.Feeding.{fed-append, said-append}
+use Rattle.drill_feed.proofs.Feeding.{fed-append, printed-append}
 
 -- there is always a last piece
 data Some : List (List ℕ) → Type 0 where
@@ -49,64 +50,64 @@ behind-none : {pieces : List (List ℕ)} → Some pieces → behind [] pieces �
 behind-none (some l more) = refl
 
 module _ (plan : Plan) (few : plan .nodecount ≤ noNumber) where
-  abbrev judged : List ℕ → Rattle.drill_line.specs.declared.Line.Line
-  judged l = parseLine l (plan .nodecount)
+  abbrev parsed : List ℕ → Rattle.drill_line.specs.declared.Line.Line
+  parsed l = parseLine l (plan .nodecount)
 
   -- the drill after so many lines, amid another
   abbrev amid : World → ℕ → List ℕ → Drill
   amid w lines l = record { plan = plan; world = w; lines = lines; held = holdAll emptyHeld l }
 
-  amid-judged : (w : World) (lines : ℕ) (l : List ℕ) → heldLine (amid w lines l) ≡ judged l
-  amid-judged w lines l = ap judged (held-line l) ∙ enough room l (plan .nodecount) (omega arith) few
+  amid-parsed : (w : World) (lines : ℕ) (l : List ℕ) → heldLine (amid w lines l) ≡ parsed l
+  amid-parsed w lines l = ap parsed (held-line l) ∙ enough room l (plan .nodecount) (omega arith) few
 
-  amid-text : (w : World) (lines : ℕ) (l : List ℕ) → lineSaid (amid w lines l) ≡ lineText plan w (next lines) (judged l)
-  unfolding lineSaid
-  amid-text w lines l = ap (lineText plan w (next lines)) (amid-judged w lines l)
+  amid-text : (w : World) (lines : ℕ) (l : List ℕ) → linePrinted (amid w lines l) ≡ lineText plan w (nextLine lines) (parsed l)
+  unfolding linePrinted
+  amid-text w lines l = ap (lineText plan w (nextLine lines)) (amid-parsed w lines l)
 
-  amid-ended : (w : World) (lines : ℕ) (l : List ℕ) → ended (amid w lines l) ≡ amid (worldAfter plan w (judged l)) (next lines) []
+  amid-ended : (w : World) (lines : ℕ) (l : List ℕ) → ended (amid w lines l) ≡ amid (worldAfter plan w (parsed l)) (nextLine lines) []
   unfolding ended holdAll
-  amid-ended w lines l = ap (λ m. record { plan = plan; world = worldAfter plan w m; lines = next lines; held = emptyHeld }) (amid-judged w lines l)
+  amid-ended w lines l = ap (λ m. record { plan = plan; world = worldAfter plan w m; lines = nextLine lines; held = emptyHeld }) (amid-parsed w lines l)
 
   one-more : (w : World) (lines : ℕ) (l : List ℕ) {pieces : List (List ℕ)} → Some pieces
-      → linesText plan w lines (l ∷ pieces) ≡ lineText plan w (next lines) (judged l) ++ linesText plan (worldAfter plan w (judged l)) (next lines) pieces
+      → linesText plan w lines (l ∷ pieces) ≡ lineText plan w (nextLine lines) (parsed l) ++ linesText plan (worldAfter plan w (parsed l)) (nextLine lines) pieces
   unfolding linesText
   one-more w lines l (some m more) = refl
 
   abbrev Right : List ℕ → Type 0
-  Right input = (w : World) (lines : ℕ) (l : List ℕ) → allSaid (amid w lines l) input ≡ linesText plan w lines (behind l (cut 10 input))
+  Right input = (w : World) (lines : ℕ) (l : List ℕ) → allPrinted (amid w lines l) input ≡ linesText plan w lines (behind l (cut 10 input))
 
   last : Right []
-  unfolding allSaid said fed lastSaid cut linesText
+  unfolding allPrinted printed fed lastPrinted cut linesText
   last w lines l =
       ap₂ (λ b x. ifElse b [] x) (held-none l) (amid-text w lines l)
-      ∙ ap (λ x. ifElse (eqb (length x) 0) [] (lineText plan w (next lines) (judged x))) (sym (append-nil l))
+      ∙ ap (λ x. ifElse (eqb (length x) 0) [] (lineText plan w (nextLine lines) (parsed x))) (sym (append-nil l))
 
   step : (c : ℕ) (input : List ℕ) → Right input → (t : Bool) → eqb c 10 ≡ t → Right (c ∷ input)
-  unfolding allSaid said fed cut
+  unfolding allPrinted printed fed cut
   step c input h true e w lines l =
       let d = amid w lines l in
-      let w′ = worldAfter plan w (judged l) in
+      let w′ = worldAfter plan w (parsed l) in
       rw e
-      (append-assoc (lineSaid d) (said (ended d) input) (lastSaid (fed (ended d) input))
-      ∙ ap₂ (λ x y. x ++ allSaid y input) (amid-text w lines l) (amid-ended w lines l)
-      ∙ ap (λ x. lineText plan w (next lines) (judged l) ++ x) (h w′ (next lines) [] ∙ ap (linesText plan w′ (next lines)) (behind-none (cut-some 10 input)))
+      (append-assoc (linePrinted d) (printed (ended d) input) (lastPrinted (fed (ended d) input))
+      ∙ ap₂ (λ x y. x ++ allPrinted y input) (amid-text w lines l) (amid-ended w lines l)
+      ∙ ap (λ x. lineText plan w (nextLine lines) (parsed l) ++ x) (h w′ (nextLine lines) [] ∙ ap (linesText plan w′ (nextLine lines)) (behind-none (cut-some 10 input)))
       ∙ sym (one-more w lines l (cut-some 10 input))
       ∙ ap (λ x. linesText plan w lines (x ∷ cut 10 input)) (sym (append-nil l)))
   step c input h false e w lines l =
       let f : _≡_ {A = Drill} (keeps (amid w lines l) (holdByte (holdAll emptyHeld l) c)) (amid w lines (l ++ (c ∷ []))) =
       ap (λ x. record { plan = plan; world = w; lines = lines; held = x }) (sym (hold-one l c)) in
-      rw e (ap (λ d. allSaid d input) f ∙ h w lines (l ++ (c ∷ [])) ∙ ap (linesText plan w lines) (behind-longer l c (cut 10 input)))
+      rw e (ap (λ d. allPrinted d input) f ∙ h w lines (l ++ (c ∷ [])) ∙ ap (linesText plan w lines) (behind-longer l c (cut 10 input)))
 
   right : (input : List ℕ) → Right input
   right [] w lines l = last w lines l
   right (c ∷ input) w lines l = step c input (right input) (eqb c 10) refl w lines l
 
   -- the whole input, from power-on
-  pub by-lines : (input : List ℕ) → allSaid (started plan) input ≡ drillText plan input
+  pub by-lines : (input : List ℕ) → allPrinted (started plan) input ≡ drillText plan input
   unfolding holdAll
   by-lines input = right input (powerOn (sleeps plan)) 0 [] ∙ ap (linesText plan (powerOn (sleeps plan)) 0) (behind-none (cut-some 10 input))
 
 -- in two pieces as in one
-pub in-pieces : (d : Drill) (a b : List ℕ) → allSaid d (a ++ b) ≡ said d a ++ allSaid (fed d a) b
-unfolding allSaid
-in-pieces d a b = ap₂ (λ x y. x ++ lastSaid y) (said-append d a b) (fed-append d a b) ∙ append-assoc (said d a) (said (fed d a) b) (lastSaid (fed (fed d a) b))
+pub in-pieces : (d : Drill) (a b : List ℕ) → allPrinted d (a ++ b) ≡ printed d a ++ allPrinted (fed d a) b
+unfolding allPrinted
+in-pieces d a b = ap₂ (λ x y. x ++ lastPrinted y) (printed-append d a b) (fed-append d a b) ∙ append-assoc (printed d a) (printed (fed d a) b) (lastPrinted (fed (fed d a) b))

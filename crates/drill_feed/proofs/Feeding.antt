@@ -21,61 +21,51 @@ use Rattle.base_text.specs.Text.{Appended, Shown, largest}
 use Rattle.base_text.proofs.Appends.{appended-none, appended-then, appended-as}
 use Rattle.drill_line.specs.declared.Line.{Line}
 use Rattle.drill_line.specs.Parse.{onDrillBus}
-use Rattle.drill_text.specs.Lines.{moveLine, badLine}
-use Rattle.drill_text.proofs.Lines.{move-short, bad-short}
+use Rattle.drill_text.specs.Lines.{movedLine, badLine, nextLine}
+use Rattle.drill_text.proofs.Lines.{moved-short, bad-short, Printed, printed-bad, printed-move}
 use Rattle.drill_feed.specs.declared.Drill.{Drill}
 use Rattle.drill_feed.specs.declared.Held.{Held}
-use Rattle.drill_feed.specs.Feed.{next, lineMoved, worldAfter, lineText, emptyHeld, holdByte, holdAll, heldLine, ended, lineSaid, keeps, byteFed, byteSaid, fed, said, lastSaid, LineEnd, Gives, lastFed}
+use Rattle.drill_feed.specs.Feed.{lineMoved, worldAfter, lineText, emptyHeld, holdByte, holdAll, heldLine, ended, linePrinted, keeps, byteFed, bytePrinted, fed, printed, lastPrinted, LineEnd, Gives, lastFed}
 
--- a line told: the world w′ after it, and the buffer l′ that was l
-pub record Tells (plan : Plan) (w : World) (number : ℕ) (line : Line) (at : ℕ) (l l′ : List ℕ) (w′ : World) (r : ℕ) : Type 0 where
-  pub after : w′ ≡ worldAfter plan w line
-  pub text : Appended at (lineText plan w number line) l l′ r
-  pub size : length l′ ≡ length l
+-- a line printed
+abbrev LinePrinted : Plan → World → ℕ → Line → ℕ → List ℕ → List ℕ → World → ℕ → Type 0
+LinePrinted plan w number line = Printed (worldAfter plan w line) (lineText plan w number line)
 
-module _ {plan : Plan} {w w′ : World} {number at q r : ℕ} {line : Line} {l l′ x : List ℕ} where
-  pub tells-bad : line ≡ Line.Bad → l′ ≡ x → w′ ≡ w → r ≡ q → Appended at (badLine number) l x q → length x ≡ length l → Tells plan w number line at l l′ w′ r
-  tells-bad e f g h a k = record { after = rw (e, g); text = rw (e, f, h) a; size = rw f k }
+module _ (plan : Plan) (w : World) (number : ℕ) {line : Line} {w′ : World} {at q r : ℕ} {l l′ x : List ℕ} where
+  pub line-bad : line ≡ Line.Bad → l′ ≡ x → w′ ≡ w → r ≡ q → Appended at (badLine number) l x q → length x ≡ length l → LinePrinted plan w number line at l l′ w′ r
+  line-bad e = printed-bad w number (rw e) (rw e)
 
-  pub tells-move : {act : Act} {reached : Bool} {fate : Fate} {m : Move} {o : Moved} → line ≡ Line.Move act reached fate → l′ ≡ x → w′ ≡ o .world → r ≡ q
-      → m ≡ onDrillBus act reached fate → o ≡ worldAct plan w m → Appended at (moveLine number (o .world) (plan .nodecount) (o .refusal)) l x q → length x ≡ length l
-      → Tells plan w number line at l l′ w′ r
+  pub line-move : {act : Act} {reached : Bool} {fate : Fate} {m : Move} {o : Moved} → line ≡ Line.Move act reached fate → m ≡ onDrillBus act reached fate → o ≡ worldAct plan w m
+      → l′ ≡ x → w′ ≡ o .world → r ≡ q → Appended at (movedLine plan number o) l x q → length x ≡ length l → LinePrinted plan w number line at l l′ w′ r
   unfolding lineMoved
-  tells-move {act = act} {reached = reached} {fate = fate} {o = o} e f g h b c a k =
-      let z : o ≡ lineMoved plan w act reached fate = c ∙ ap (worldAct plan w) b in
-      record {
-        after = rw e (g ∙ ap (λ (y : Moved). y .world) z);
-        text = rw (e, f, h) (appended-as (ap (λ (y : Moved). moveLine number (y .world) (plan .nodecount) (y .refusal)) z) a);
-        size = rw f k;
-      }
+  line-move {act = act} {reached = reached} {fate = fate} e b c = printed-move w number plan (onDrillBus act reached fate) (rw e) (rw e) (c ∙ ap (worldAct plan w) b)
 
 -- the held line ends
-pub ends : (d : Drill) {line : Line} {number at r : ℕ} {held : Held} {l l′ : List ℕ} {w : World} → line ≡ heldLine d → number ≡ next (d .lines) → held ≡ emptyHeld
-    → Tells (d .plan) (d .world) number line at l l′ w r
-    → Gives (ended d) at (lineSaid d) l l′ (record { drill = record { plan = d .plan; world = w; lines = number; held = held }; length = r })
-unfolding ended lineSaid
+pub ends : (d : Drill) {line : Line} {number at r : ℕ} {held : Held} {l l′ : List ℕ} {w : World} → line ≡ heldLine d → number ≡ nextLine (d .lines) → held ≡ emptyHeld
+    → LinePrinted (d .plan) (d .world) number line at l l′ w r
+    → Gives (ended d) at (linePrinted d) l l′ (record { drill = record { plan = d .plan; world = w; lines = number; held = held }; length = r })
+unfolding ended linePrinted
 ends d e f g t =
     record {
-      state = rw (f, g) (ap (λ w. record { plan = d .plan; world = w; lines = next (d .lines); held = emptyHeld }) (t .after ∙ ap (worldAfter (d .plan) (d .world)) e));
-      appended = appended-as (ap₂ (lineText (d .plan) (d .world)) f e) (t .text);
+      state = rw (f, g) (ap (λ w. record { plan = d .plan; world = w; lines = nextLine (d .lines); held = emptyHeld }) (t .world ∙ ap (worldAfter (d .plan) (d .world)) e));
+      appended = appended-as (ap₂ (lineText (d .plan) (d .world)) f e) (t .appended);
     }
 
 line-short : (plan : Plan) (w : World) (number : ℕ) (line : Line) → length (lineText plan w number line) ≤ 80
-line-short plan w number (Line.Move act reached fate) =
-    move-short number (lineMoved plan w act reached fate .world) (plan .nodecount) (lineMoved plan w act reached fate .refusal)
+line-short plan w number (Line.Move act reached fate) = moved-short plan number (lineMoved plan w act reached fate)
 line-short plan w number Line.Bad = bad-short number
 
 -- 80 bytes of text for each byte of input are room enough, and 80 at its end
-pub last-room : (d : Drill) → length (lineSaid d) ≤ 80
-unfolding lineSaid
-last-room d = line-short (d .plan) (d .world) (next (d .lines)) (heldLine d)
+pub last-room : (d : Drill) → length (linePrinted d) ≤ 80
+unfolding linePrinted
+last-room d = line-short (d .plan) (d .world) (nextLine (d .lines)) (heldLine d)
 
-pub room-enough : (d : Drill) (input : List ℕ) → length (said d input) ≤ 80 * length input
-unfolding said
+pub room-enough : (d : Drill) (input : List ℕ) → length (printed d input) ≤ 80 * length input
+unfolding printed
 room-enough d [] = omega arith
 room-enough d (b ∷ input) =
-    let one : length (byteSaid d b) ≤ 80 = by-test (λ text. length text ≤ 80) (eqb b 10) {x = lineSaid d} {y = []} (λ e. last-room d) (λ e. omega arith) in
-    omega (arith, length-append (byteSaid d b) (said (byteFed d b) input), one, room-enough (byteFed d b) input)
+    let one : length (bytePrinted d b) ≤ 80 = by-test (λ text. length text ≤ 80) (eqb b 10) {x = linePrinted d} {y = []} (λ e. last-room d) (λ e. omega arith) in
+    omega (arith, length-append (bytePrinted d b) (printed (byteFed d b) input), one, room-enough (byteFed d b) input)
 
 -- bytes in pieces
 
@@ -84,11 +74,11 @@ unfolding fed
 fed-append d [] b = refl
 fed-append d (x ∷ a) b = fed-append (byteFed d x) a b
 
-pub said-append : (d : Drill) (a b : List ℕ) → said d (a ++ b) ≡ said d a ++ said (fed d a) b
-unfolding fed said
-said-append d [] b = refl
-said-append d (x ∷ a) b =
-    ap (λ l. byteSaid d x ++ l) (said-append (byteFed d x) a b) ∙ sym (append-assoc (byteSaid d x) (said (byteFed d x) a) (said (fed (byteFed d x) a) b))
+pub printed-append : (d : Drill) (a b : List ℕ) → printed d (a ++ b) ≡ printed d a ++ printed (fed d a) b
+unfolding fed printed
+printed-append d [] b = refl
+printed-append d (x ∷ a) b =
+    ap (λ l. bytePrinted d x ++ l) (printed-append (byteFed d x) a b) ∙ sym (append-assoc (bytePrinted d x) (printed (byteFed d x) a) (printed (fed (byteFed d x) a) b))
 
 -- bytes with no LF
 
@@ -100,10 +90,10 @@ unfolding fed holdAll
 fed-kept d [] h = refl
 fed-kept d (x ∷ l) h = rw (ne-eqb x 10 (h 0 (omega arith))) (fed-kept (keeps d (holdByte (d .held) x)) l (λ k j. h (suc k) (omega arith)))
 
-said-none : (d : Drill) (l : List ℕ) → NoEnd l → said d l ≡ []
-unfolding said
-said-none d [] h = refl
-said-none d (x ∷ l) h = rw (ne-eqb x 10 (h 0 (omega arith))) (said-none (keeps d (holdByte (d .held) x)) l (λ k j. h (suc k) (omega arith)))
+printed-none : (d : Drill) (l : List ℕ) → NoEnd l → printed d l ≡ []
+unfolding printed
+printed-none d [] h = refl
+printed-none d (x ∷ l) h = rw (ne-eqb x 10 (h 0 (omega arith))) (printed-none (keeps d (holdByte (d .held) x)) l (λ k j. h (suc k) (omega arith)))
 
 -- the loop over lines
 
@@ -130,10 +120,10 @@ module _ (input : List ℕ) (start end : ℕ) (v : LineEnd input start end) wher
         ap (keeps d) b ∙ sym (fed-kept d (part input start end) part-free) ∙ ap (λ x. fed x (part input start end)) a
         ∙ sym (fed-append d₀ (take start input) (part input start end))
 
-    said-part : said d₀ (take start input ++ part input start end) ≡ said d₀ (take start input)
-    said-part =
-        said-append d₀ (take start input) (part input start end)
-        ∙ ap (λ x. said d₀ (take start input) ++ x) (said-none (fed d₀ (take start input)) (part input start end) part-free) ∙ append-nil (said d₀ (take start input))
+    printed-part : printed d₀ (take start input ++ part input start end) ≡ printed d₀ (take start input)
+    printed-part =
+        printed-append d₀ (take start input) (part input start end)
+        ∙ ap (λ x. printed d₀ (take start input) ++ x) (printed-none (fed d₀ (take start input)) (part input start end) part-free) ∙ append-nil (printed d₀ (take start input))
 
     -- the line ends
     pub turn-state : end < length input → {d′ : Drill} → d′ ≡ ended (keeps d held) → d′ ≡ fed d₀ (take (end + 1) input)
@@ -141,15 +131,15 @@ module _ (input : List ℕ) (start end : ℕ) (v : LineEnd input start end) wher
     turn-state p q =
         q ∙ ap ended held-part ∙ sym (fed-append d₀ (take start input ++ part input start end) (10 ∷ [])) ∙ ap (fed d₀) (sym (take-line p))
 
-    pub turn-text : end < length input → {l m n : List ℕ} {r q : ℕ} → length l ≤ largest → Appended 0 (said d₀ (take start input)) l m r
-        → Appended r (lineSaid (keeps d held)) m n q → Appended 0 (said d₀ (take (end + 1) input)) l n q
-    unfolding said
+    pub turn-text : end < length input → {l m n : List ℕ} {r q : ℕ} → length l ≤ largest → Appended 0 (printed d₀ (take start input)) l m r
+        → Appended r (linePrinted (keeps d held)) m n q → Appended 0 (printed d₀ (take (end + 1) input)) l n q
+    unfolding printed
     turn-text p fits w z =
         appended-as
-        (ap₂ (λ x y. x ++ lineSaid y) (sym said-part) held-part
-        ∙ ap (λ x. said d₀ (take start input ++ part input start end) ++ x) (sym (append-nil (lineSaid (fed d₀ (take start input ++ part input start end)))))
-        ∙ sym (said-append d₀ (take start input ++ part input start end) (10 ∷ []))
-        ∙ ap (said d₀) (sym (take-line p)))
+        (ap₂ (λ x y. x ++ linePrinted y) (sym printed-part) held-part
+        ∙ ap (λ x. printed d₀ (take start input ++ part input start end) ++ x) (sym (append-nil (linePrinted (fed d₀ (take start input ++ part input start end)))))
+        ∙ sym (printed-append d₀ (take start input ++ part input start end) (10 ∷ []))
+        ∙ ap (printed d₀) (sym (take-line p)))
         (appended-then fits w z)
 
     -- the bytes end
@@ -159,31 +149,31 @@ module _ (input : List ℕ) (start end : ℕ) (v : LineEnd input start end) wher
     pub stop-state : length input ≤ end → keeps d held ≡ fed d₀ input
     stop-state p = held-part ∙ ap (fed d₀) (whole p)
 
-    pub stop-text : length input ≤ end → {l m : List ℕ} {r : ℕ} → Appended 0 (said d₀ (take start input)) l m r → Appended 0 (said d₀ input) l m r
-    stop-text p w = appended-as (sym said-part ∙ ap (said d₀) (whole p)) w
+    pub stop-text : length input ≤ end → {l m : List ℕ} {r : ℕ} → Appended 0 (printed d₀ (take start input)) l m r → Appended 0 (printed d₀ input) l m r
+    stop-text p w = appended-as (sym printed-part ∙ ap (printed d₀) (whole p)) w
 
 -- no bytes yet
 pub fed-nothing : (d : Drill) → d ≡ fed d []
 unfolding fed
 fed-nothing d = refl
 
-pub said-nothing : (d : Drill) (l : List ℕ) → Appended 0 (said d []) l l 0
-unfolding said
-said-nothing d l = appended-none 0 l (omega arith)
+pub printed-nothing : (d : Drill) (l : List ℕ) → Appended 0 (printed d []) l l 0
+unfolding printed
+printed-nothing d l = appended-none 0 l (omega arith)
 
 -- the end of the input: nothing is held, or a line that lacks its LF
-pub last-none : (d : Drill) (l : List ℕ) → d .held .count ≡ 0 → Shown (lastSaid d) l l 0
-unfolding lastSaid
+pub last-none : (d : Drill) (l : List ℕ) → d .held .count ≡ 0 → Shown (lastPrinted d) l l 0
+unfolding lastPrinted
 last-none d l e = rw (eq-eqb (d .held .count) 0 e) (record { count = omega arith; bytes = refl })
 
-pub last-one : (d : Drill) {l l′ : List ℕ} {r : ℕ} → (d .held .count ≡ 0 → ⊥) → Shown (lineSaid d) l l′ r → Shown (lastSaid d) l l′ r
-unfolding lastSaid
+pub last-one : (d : Drill) {l l′ : List ℕ} {r : ℕ} → (d .held .count ≡ 0 → ⊥) → Shown (linePrinted d) l l′ r → Shown (lastPrinted d) l l′ r
+unfolding lastPrinted
 last-one d n s = rw (ne-eqb (d .held .count) 0 n) s
 
 -- an LF ends it
-pub said-end : (d : Drill) → said d (10 ∷ []) ≡ lineSaid d
-unfolding said
-said-end d = append-nil (lineSaid d)
+pub printed-end : (d : Drill) → printed d (10 ∷ []) ≡ linePrinted d
+unfolding printed
+printed-end d = append-nil (linePrinted d)
 
 pub fed-end : (d : Drill) → fed d (10 ∷ []) ≡ ended d
 unfolding fed

@@ -1,5 +1,5 @@
 -- The drill: what its input does and prints, byte by byte and line by line.
-use Prim.Native.Nat.{ℕ, _+_, _%_, _^_, _≤_, _<_}
+use Prim.Native.Nat.{ℕ, _+_, _≤_, _<_}
 use mathlib.Core.Path.{_≡_}
 use mathlib.Core.Bool.{Bool}
 use mathlib.Core.List.{List, [], _∷_, _++_}
@@ -18,7 +18,7 @@ use Rattle.base_text.specs.Text.{Appended, Shown}
 use Rattle.drill_line.specs.declared.Line.{Line}
 use Rattle.drill_line.specs.Words.{cut}
 use Rattle.drill_line.specs.Parse.{parseLine, onDrillBus}
-use Rattle.drill_text.specs.Lines.{moveLine, badLine}
+use Rattle.drill_text.specs.Lines.{movedLine, badLine, nextLine}
 use Rattle.drill_feed.specs.declared.Held.{Held}
 use Rattle.drill_feed.specs.declared.Drill.{Drill}
 use Rattle.drill_feed.specs.declared.Fed.{Fed}
@@ -34,21 +34,16 @@ worldAfter plan world Line.Bad = world
 
 -- what a line prints
 abbrev pub lineText : Plan → World → ℕ → Line → List ℕ
-lineText plan world number (Line.Move act reached fate) =
-    moveLine number (lineMoved plan world act reached fate .world) (plan .nodecount) (lineMoved plan world act reached fate .refusal)
+lineText plan world number (Line.Move act reached fate) = movedLine plan number (lineMoved plan world act reached fate)
 lineText plan world number Line.Bad = badLine number
-
--- the line after so many, of 64 bits
-abbrev pub next : ℕ → ℕ
-next lines = (lines + 1) % 2 ^ 64
 
 -- what so many lines and more print, the input cut at each LF: "Lines end in LF, which the last may lack"
 unfoldable pub linesText : Plan → World → ℕ → List (List ℕ) → List ℕ
 linesText plan world lines [] = []
-linesText plan world lines (l ∷ []) = ifElse (eqb (length l) 0) [] (lineText plan world (next lines) (parseLine l (plan .nodecount)))
+linesText plan world lines (l ∷ []) = ifElse (eqb (length l) 0) [] (lineText plan world (nextLine lines) (parseLine l (plan .nodecount)))
 linesText plan world lines (l ∷ m ∷ more) =
-    lineText plan world (next lines) (parseLine l (plan .nodecount))
-    ++ linesText plan (worldAfter plan world (parseLine l (plan .nodecount))) (next lines) (m ∷ more)
+    lineText plan world (nextLine lines) (parseLine l (plan .nodecount))
+    ++ linesText plan (worldAfter plan world (parseLine l (plan .nodecount))) (nextLine lines) (m ∷ more)
 
 -- what the drill prints for an input, from power-on
 abbrev pub drillText : Plan → List ℕ → List ℕ
@@ -81,10 +76,10 @@ heldLine d = parseLine (heldText (d .held)) (d .plan .nodecount)
 
 -- the held line ends
 unfoldable pub ended : Drill → Drill
-ended d = record { plan = d .plan; world = worldAfter (d .plan) (d .world) (heldLine d); lines = next (d .lines); held = emptyHeld }
+ended d = record { plan = d .plan; world = worldAfter (d .plan) (d .world) (heldLine d); lines = nextLine (d .lines); held = emptyHeld }
 
-unfoldable pub lineSaid : Drill → List ℕ
-lineSaid d = lineText (d .plan) (d .world) (next (d .lines)) (heldLine d)
+unfoldable pub linePrinted : Drill → List ℕ
+linePrinted d = lineText (d .plan) (d .world) (nextLine (d .lines)) (heldLine d)
 
 abbrev pub keeps : Drill → Held → Drill
 keeps d held = record { plan = d .plan; world = d .world; lines = d .lines; held = held }
@@ -93,27 +88,27 @@ keeps d held = record { plan = d .plan; world = d .world; lines = d .lines; held
 abbrev pub byteFed : Drill → ℕ → Drill
 byteFed d b = ifElse (eqb b 10) (ended d) (keeps d (holdByte (d .held) b))
 
-abbrev pub byteSaid : Drill → ℕ → List ℕ
-byteSaid d b = ifElse (eqb b 10) (lineSaid d) []
+abbrev pub bytePrinted : Drill → ℕ → List ℕ
+bytePrinted d b = ifElse (eqb b 10) (linePrinted d) []
 
 unfoldable pub fed : Drill → List ℕ → Drill
 fed d [] = d
 fed d (b ∷ bytes) = fed (byteFed d b) bytes
 
-unfoldable pub said : Drill → List ℕ → List ℕ
-said d [] = []
-said d (b ∷ bytes) = byteSaid d b ++ said (byteFed d b) bytes
+unfoldable pub printed : Drill → List ℕ → List ℕ
+printed d [] = []
+printed d (b ∷ bytes) = bytePrinted d b ++ printed (byteFed d b) bytes
 
 -- the end of the input
 unfoldable pub lastFed : Drill → Drill
 lastFed d = ifElse (eqb (d .held .count) 0) d (ended d)
 
-unfoldable pub lastSaid : Drill → List ℕ
-lastSaid d = ifElse (eqb (d .held .count) 0) [] (lineSaid d)
+unfoldable pub lastPrinted : Drill → List ℕ
+lastPrinted d = ifElse (eqb (d .held .count) 0) [] (linePrinted d)
 
 -- the whole of it
-unfoldable pub allSaid : Drill → List ℕ → List ℕ
-allSaid d input = said d input ++ lastSaid (fed d input)
+unfoldable pub allPrinted : Drill → List ℕ → List ℕ
+allPrinted d input = printed d input ++ lastPrinted (fed d input)
 
 -- the end of the line that starts at an index: its LF, or the end of the bytes
 pub record LineEnd (bytes : List ℕ) (start end : ℕ) : Type 0 where

@@ -4,7 +4,7 @@ ghost use Prim.Native.Nat.{_≤_};
 ghost use lib.ListN.{length};
 ghost use Rattle.base_text.specs.Text.{Counts};
 ghost use Rattle.drill_line.specs.Parse.{parseLine};
-ghost use Rattle.drill_feed.specs.Feed.{emptyHeld, holdAll, heldText, started, fed, said, lastFed, lastSaid, LineEnd, Gives, GivesFirst};
+ghost use Rattle.drill_feed.specs.Feed.{emptyHeld, holdAll, heldText, started, fed, printed, lastFed, lastPrinted, LineEnd, Gives, GivesFirst};
 use base_text::below;
 use bus::World;
 use drill_line::Line;
@@ -106,7 +106,7 @@ impl Drill {
 
     // Its parts go by themselves, and a move is made here, so that a line copies the world as seldom as can be.
     fn feed_from(self, input: &[u8], out: &mut [u8]) -> Fed
-        ensures { λ r. ⌜ Gives (fed self (now (input .entry))) 0 (said self (now (input .entry))) (now (out .entry)) (now (out .exit)) r ⌝ }
+        ensures { λ r. ⌜ Gives (fed self (now (input .entry))) 0 (printed self (now (input .entry))) (now (out .entry)) (now (out .exit)) r ⌝ }
     {
         let plan = self.plan;
         let mut world = self.world;
@@ -156,7 +156,7 @@ impl Drill {
 
     // A piece more of the input. Its text stands at the front of the buffer, as far as there is room: 80 places for each byte are enough.
     pub fn feed(self, input: &[u8], out: &mut [u8]) -> Fed
-        ensures { λ r. ⌜ GivesFirst (fed self (now (input .entry))) (said self (now (input .entry))) (now (out .entry)) (now (out .exit)) r ⌝ }
+        ensures { λ r. ⌜ GivesFirst (fed self (now (input .entry))) (printed self (now (input .entry))) (now (out .entry)) (now (out .exit)) r ⌝ }
         ensures { λ r. ⌜ Counts (r .length) (now (out .exit)) ⌝ }
     {
         let last = self.feed_from(input, out);
@@ -169,7 +169,7 @@ impl Drill {
 
     // The end of the input: a last line that lacks its LF.
     pub fn finish(self, out: &mut [u8]) -> Fed
-        ensures { λ r. ⌜ GivesFirst (lastFed self) (lastSaid self) (now (out .entry)) (now (out .exit)) r ⌝ }
+        ensures { λ r. ⌜ GivesFirst (lastFed self) (lastPrinted self) (now (out .entry)) (now (out .exit)) r ⌝ }
         ensures { λ r. ⌜ Counts (r .length) (now (out .exit)) ⌝ }
     {
         let held = self.held;

@@ -16,13 +16,13 @@ use Rattle.bus.specs.declared.World.{World}
 use Rattle.bus.specs.Moves.{worldAct}
 use Rattle.base_text.specs.Text.{Appended, largest}
 use Rattle.base_text.proofs.Appends.{appended-none, appended-then, appended-as}
-use Rattle.drill_text.specs.Lines.{moveLine, badLine}
-use Rattle.drill_text.proofs.Lines.{move-short, bad-short}
+use Rattle.drill_text.specs.Lines.{movedLine, badLine, nextLine}
+use Rattle.drill_text.proofs.Lines.{moved-short, bad-short, Printed, printed-bad, printed-move}
 use Rattle.bus_moves.specs.Decoding.{moveOf, isMove}
 use Rattle.bus_moves.specs.Records.{recordAt, recordCount, records}
 use Rattle.bus_moves.proofs.ByRecord.{tab-last, records-append}
 use Rattle.drill_replay.specs.declared.Replay.{Replay}
-use Rattle.drill_replay.specs.Replay.{recordMoved, worldAfter, recordText, next, after, afterAll, allSaid, replayed, said}
+use Rattle.drill_replay.specs.Replay.{recordMoved, worldAfter, recordText, after, afterAll, allPrinted, replayed, printed}
 
 -- records in two parts
 
@@ -31,12 +31,12 @@ unfolding afterAll
 after-append r [] b = refl
 after-append r (s ∷ a) b = after-append (after r s) a b
 
-said-append : (r : Replay) (a b : List (List ℕ)) → allSaid r (a ++ b) ≡ allSaid r a ++ allSaid (afterAll r a) b
-unfolding afterAll allSaid
-said-append r [] b = refl
-said-append r (s ∷ a) b =
-    let text = recordText (r .plan) (r .world) (next (r .count)) s in
-    ap (λ l. text ++ l) (said-append (after r s) a b) ∙ sym (append-assoc text (allSaid (after r s) a) (allSaid (afterAll (after r s) a) b))
+printed-append : (r : Replay) (a b : List (List ℕ)) → allPrinted r (a ++ b) ≡ allPrinted r a ++ allPrinted (afterAll r a) b
+unfolding afterAll allPrinted
+printed-append r [] b = refl
+printed-append r (s ∷ a) b =
+    let text = recordText (r .plan) (r .world) (nextLine (r .count)) s in
+    ap (λ l. text ++ l) (printed-append (after r s) a b) ∙ sym (append-assoc text (allPrinted (after r s) a) (allPrinted (afterAll (after r s) a) b))
 
 -- a first piece of whole records, and another behind it: as the two in one
 module _ (r : Replay) (a b : List ℕ) (whole : length a % 16 ≡ 0) where
@@ -46,49 +46,41 @@ module _ (r : Replay) (a b : List ℕ) (whole : length a % 16 ≡ 0) where
   pub replayed-pieces : replayed r (a ++ b) ≡ replayed (replayed r a) b
   replayed-pieces = ap (afterAll r) parts ∙ after-append r (records a) (records b)
 
-  pub said-pieces : said r (a ++ b) ≡ said r a ++ said (replayed r a) b
-  said-pieces = ap (allSaid r) parts ∙ said-append r (records a) (records b)
+  pub printed-pieces : printed r (a ++ b) ≡ printed r a ++ printed (replayed r a) b
+  printed-pieces = ap (allPrinted r) parts ∙ printed-append r (records a) (records b)
 
 -- 80 bytes of text for each record are room enough
 
 record-short : (plan : Plan) (w : World) (number : ℕ) (s : List ℕ) → length (recordText plan w number s) ≤ 80
 unfolding recordText
 record-short plan w number s =
-    by-test (λ text. length text ≤ 80) (isMove s) {x = moveLine number (recordMoved plan w s .world) (plan .nodecount) (recordMoved plan w s .refusal)} {y = badLine number}
-    (λ e. move-short number (recordMoved plan w s .world) (plan .nodecount) (recordMoved plan w s .refusal)) (λ e. bad-short number)
+    by-test (λ text. length text ≤ 80) (isMove s) {x = movedLine plan number (recordMoved plan w s)} {y = badLine number}
+    (λ e. moved-short plan number (recordMoved plan w s)) (λ e. bad-short number)
 
-all-short : (r : Replay) (l : List (List ℕ)) → length (allSaid r l) ≤ 80 * length l
-unfolding allSaid
+all-short : (r : Replay) (l : List (List ℕ)) → length (allPrinted r l) ≤ 80 * length l
+unfolding allPrinted
 all-short r [] = omega arith
 all-short r (s ∷ l) =
-    let text = recordText (r .plan) (r .world) (next (r .count)) s in
-    omega (arith, length-append text (allSaid (after r s) l), record-short (r .plan) (r .world) (next (r .count)) s, all-short (after r s) l)
+    let text = recordText (r .plan) (r .world) (nextLine (r .count)) s in
+    omega (arith, length-append text (allPrinted (after r s) l), record-short (r .plan) (r .world) (nextLine (r .count)) s, all-short (after r s) l)
 
-pub room-enough : (r : Replay) (input : List ℕ) → length (said r input) ≤ 80 * recordCount input
+pub room-enough : (r : Replay) (input : List ℕ) → length (printed r input) ≤ 80 * recordCount input
 unfolding records
 room-enough r input = omega (arith, all-short r (records input), length-tab (recordCount input) (recordAt input))
 
--- a record told: the world w′ after it, and the buffer l′ that was l
-pub record Tells (plan : Plan) (w : World) (number : ℕ) (s : List ℕ) (at : ℕ) (l l′ : List ℕ) (w′ : World) (end : ℕ) : Type 0 where
-  pub world : w′ ≡ worldAfter plan w s
-  pub text : Appended at (recordText plan w number s) l l′ end
-  pub size : length l′ ≡ length l
+-- a record printed
+abbrev RecordPrinted : Plan → World → ℕ → List ℕ → ℕ → List ℕ → List ℕ → World → ℕ → Type 0
+RecordPrinted plan w number s = Printed (worldAfter plan w s) (recordText plan w number s)
 
-module _ {plan : Plan} {w w′ : World} {number at q end : ℕ} {s l l′ x : List ℕ} where
-  pub tells-bad : isMove s ≡ false → l′ ≡ x → w′ ≡ w → end ≡ q → Appended at (badLine number) l x q → length x ≡ length l → Tells plan w number s at l l′ w′ end
+module _ (plan : Plan) (w : World) (number : ℕ) (s : List ℕ) {w′ : World} {at q end : ℕ} {l l′ x : List ℕ} where
+  pub record-bad : isMove s ≡ false → l′ ≡ x → w′ ≡ w → end ≡ q → Appended at (badLine number) l x q → length x ≡ length l → RecordPrinted plan w number s at l l′ w′ end
   unfolding worldAfter recordText
-  tells-bad e f g h a n = record { world = rw (e, g); text = rw (e, f, h) a; size = rw f n }
+  record-bad e = printed-bad w number (rw e) (rw e)
 
-  pub tells-move : {m : Move} {o : Moved} → isMove s ≡ true → l′ ≡ x → w′ ≡ o .world → end ≡ q → m ≡ moveOf s → o ≡ worldAct plan w m
-      → Appended at (moveLine number (o .world) (plan .nodecount) (o .refusal)) l x q → length x ≡ length l → Tells plan w number s at l l′ w′ end
+  pub record-move : {m : Move} {o : Moved} → isMove s ≡ true → m ≡ moveOf s → o ≡ worldAct plan w m → l′ ≡ x → w′ ≡ o .world → end ≡ q
+      → Appended at (movedLine plan number o) l x q → length x ≡ length l → RecordPrinted plan w number s at l l′ w′ end
   unfolding recordMoved worldAfter recordText
-  tells-move {o = o} e f g h b c a n =
-      let z : o ≡ recordMoved plan w s = c ∙ ap (worldAct plan w) b in
-      record {
-        world = rw e (g ∙ ap (λ (y : Moved). y .world) z);
-        text = rw (e, f, h) (appended-as (ap (λ (y : Moved). moveLine number (y .world) (plan .nodecount) (y .refusal)) z) a);
-        size = rw f n;
-      }
+  record-move e b c = printed-move w number plan (moveOf s) (rw e) (rw e) (c ∙ ap (worldAct plan w) b)
 
 -- the loop over records: none yet, and one more
 module _ (r : Replay) (input : List ℕ) where
@@ -96,13 +88,13 @@ module _ (r : Replay) (input : List ℕ) where
   unfolding afterAll tab
   none-replayed = refl
 
-  pub none-said : (l : List ℕ) → Appended 0 (allSaid r (tab 0 (recordAt input))) l l 0
-  unfolding allSaid tab
-  none-said l = appended-none 0 l (omega arith)
+  pub none-printed : (l : List ℕ) → Appended 0 (allPrinted r (tab 0 (recordAt input))) l l 0
+  unfolding allPrinted tab
+  none-printed l = appended-none 0 l (omega arith)
 
   module _ (k : ℕ) (now : Replay) {number at end : ℕ} {s l l′ : List ℕ} {w : World}
-      (a : now ≡ afterAll r (tab k (recordAt input))) (b : number ≡ next (now .count)) (c : s ≡ recordAt input k)
-      (t : Tells (now .plan) (now .world) number s at l l′ w end) where
+      (a : now ≡ afterAll r (tab k (recordAt input))) (b : number ≡ nextLine (now .count)) (c : s ≡ recordAt input k)
+      (t : RecordPrinted (now .plan) (now .world) number s at l l′ w end) where
     one-more : tab (k + 1) (recordAt input) ≡ tab k (recordAt input) ++ (recordAt input k ∷ [])
     one-more = rw add-one (tab-last k (recordAt input))
 
@@ -112,12 +104,12 @@ module _ (r : Replay) (input : List ℕ) where
         ap₂ (λ x y. record { plan = now .plan; world = x; count = y }) (t .world ∙ ap (worldAfter (now .plan) (now .world)) c) b
         ∙ ap (λ x. after x (recordAt input k)) a ∙ sym (after-append r (tab k (recordAt input)) (recordAt input k ∷ [])) ∙ ap (afterAll r) (sym one-more)
 
-    pub more-said : {l₀ : List ℕ} → length l₀ ≤ largest → Appended 0 (allSaid r (tab k (recordAt input))) l₀ l at → Appended 0 (allSaid r (tab (k + 1) (recordAt input))) l₀ l′ end
-    unfolding allSaid
-    more-said fits v =
+    pub more-printed : {l₀ : List ℕ} → length l₀ ≤ largest → Appended 0 (allPrinted r (tab k (recordAt input))) l₀ l at → Appended 0 (allPrinted r (tab (k + 1) (recordAt input))) l₀ l′ end
+    unfolding allPrinted
+    more-printed fits v =
         appended-as
-        (ap (λ x. allSaid r (tab k (recordAt input)) ++ x)
-        (ap₂ (recordText (now .plan) (now .world)) b c ∙ ap (λ x. recordText (x .plan) (x .world) (next (x .count)) (recordAt input k)) a
-        ∙ sym (append-nil (recordText (afterAll r (tab k (recordAt input)) .plan) (afterAll r (tab k (recordAt input)) .world) (next (afterAll r (tab k (recordAt input)) .count)) (recordAt input k))))
-        ∙ sym (said-append r (tab k (recordAt input)) (recordAt input k ∷ [])) ∙ ap (allSaid r) (sym one-more))
-        (appended-then fits v (t .text))
+        (ap (λ x. allPrinted r (tab k (recordAt input)) ++ x)
+        (ap₂ (recordText (now .plan) (now .world)) b c ∙ ap (λ x. recordText (x .plan) (x .world) (nextLine (x .count)) (recordAt input k)) a
+        ∙ sym (append-nil (recordText (afterAll r (tab k (recordAt input)) .plan) (afterAll r (tab k (recordAt input)) .world) (nextLine (afterAll r (tab k (recordAt input)) .count)) (recordAt input k))))
+        ∙ sym (printed-append r (tab k (recordAt input)) (recordAt input k ∷ [])) ∙ ap (allPrinted r) (sym one-more))
+        (appended-then fits v (t .appended))

@@ -1,5 +1,5 @@
 -- Recorded moves: what each record does and prints.
-use Prim.Native.Nat.{ℕ, _+_, _%_, _^_}
+use Prim.Native.Nat.{ℕ}
 use mathlib.Core.Path.{_≡_}
 use mathlib.Core.List.{List, [], _∷_, _++_}
 use Rattle.base_lists.specs.Bounded.{ifElse}
@@ -10,7 +10,7 @@ use Rattle.bus.specs.Moves.{worldAct}
 use Rattle.set_plan.specs.Profile.{sleeps}
 use Rattle.bus.specs.World.{powerOn}
 use Rattle.base_text.specs.Text.{Shown}
-use Rattle.drill_text.specs.Lines.{moveLine, badLine}
+use Rattle.drill_text.specs.Lines.{movedLine, badLine, nextLine}
 use Rattle.bus_moves.specs.Decoding.{moveOf, isMove}
 use Rattle.bus_moves.specs.Records.{records}
 use Rattle.drill_replay.specs.declared.Replay.{Replay}
@@ -27,11 +27,7 @@ worldAfter plan world s = ifElse (isMove s) (recordMoved plan world s .world) wo
 -- what a record prints: the drill's line of its move, or its number and `?`
 unfoldable pub recordText : Plan → World → ℕ → List ℕ → List ℕ
 recordText plan world number s =
-    ifElse (isMove s) (moveLine number (recordMoved plan world s .world) (plan .nodecount) (recordMoved plan world s .refusal)) (badLine number)
-
--- the number of the record after so many, of 64 bits
-abbrev pub next : ℕ → ℕ
-next count = (count + 1) % 2 ^ 64
+    ifElse (isMove s) (movedLine plan number (recordMoved plan world s)) (badLine number)
 
 -- "from power-on", nothing read
 abbrev pub started : Plan → Replay
@@ -39,7 +35,7 @@ started plan = record { plan = plan; world = powerOn (sleeps plan); count = 0 }
 
 -- a record more
 abbrev pub after : Replay → List ℕ → Replay
-after r s = record { plan = r .plan; world = worldAfter (r .plan) (r .world) s; count = next (r .count) }
+after r s = record { plan = r .plan; world = worldAfter (r .plan) (r .world) s; count = nextLine (r .count) }
 
 -- after some records
 unfoldable pub afterAll : Replay → List (List ℕ) → Replay
@@ -47,17 +43,17 @@ afterAll r [] = r
 afterAll r (s ∷ more) = afterAll (after r s) more
 
 -- what they print, one behind the other
-unfoldable pub allSaid : Replay → List (List ℕ) → List ℕ
-allSaid r [] = []
-allSaid r (s ∷ more) = recordText (r .plan) (r .world) (next (r .count)) s ++ allSaid (after r s) more
+unfoldable pub allPrinted : Replay → List (List ℕ) → List ℕ
+allPrinted r [] = []
+allPrinted r (s ∷ more) = recordText (r .plan) (r .world) (nextLine (r .count)) s ++ allPrinted (after r s) more
 
 -- after a piece of input, record by record
 abbrev pub replayed : Replay → List ℕ → Replay
 replayed r input = afterAll r (records input)
 
 -- what a piece prints: a last record that is short is no move
-abbrev pub said : Replay → List ℕ → List ℕ
-said r input = allSaid r (records input)
+abbrev pub printed : Replay → List ℕ → List ℕ
+printed r input = allPrinted r (records input)
 
 -- the answer fed: a replay, and a text at the front of the buffer l, which is then l′
 pub record Gives (r : Replay) (text l l′ : List ℕ) (fed : Fed) : Type 0 where

@@ -1,7 +1,7 @@
 // Recorded moves to text: for each record the drill's line of its move, or `?` where it is no move.
 ghost use mathlib.Core.Path.{_≡_};
 ghost use Rattle.base_text.specs.Text.{Counts};
-ghost use Rattle.drill_replay.specs.Replay.{started, replayed, said, Gives};
+ghost use Rattle.drill_replay.specs.Replay.{started, replayed, printed, Gives};
 use base_text::below;
 use bus::World;
 use bus_moves::is_move;
@@ -40,7 +40,7 @@ impl Replay {
     // A piece more of the input, of whole records but for a last piece. Its text stands at the front of the buffer, as far as there is
     // room: 80 places for each record are enough.
     pub fn feed(self, input: &[u8], out: &mut [u8]) -> Fed
-        ensures { λ r. ⌜ Gives (replayed self (now (input .entry))) (said self (now (input .entry))) (now (out .entry)) (now (out .exit)) r ⌝ }
+        ensures { λ r. ⌜ Gives (replayed self (now (input .entry))) (printed self (now (input .entry))) (now (out .entry)) (now (out .exit)) r ⌝ }
         ensures { λ r. ⌜ Counts (r .length) (now (out .exit)) ⌝ }
     {
         let plan = self.plan;

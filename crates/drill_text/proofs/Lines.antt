@@ -1,20 +1,24 @@
--- Laws of the lines: their parts, and their length.
+-- Laws of the lines: their parts, their length, and a line printed with the move that it tells of.
 use Prim.Native.Nat.{ℕ, zero, suc, _+_, _*_, _≤_}
-use mathlib.Core.Path.{_≡_}
+use mathlib.Core.Path.{_≡_, ap, sym, _∙_}
 use mathlib.Core.List.{List, [], _∷_}
 use mathlib.Core.Bool.{Bool, true, false}
 use lib.ListN.{length, length-append}
 use native.Mathlib.Omega.{arith}
 use native.Mathlib.Numerals.{add-one}
 use Rattle.base_text.specs.Text.{Appended, largest}
-use Rattle.base_text.proofs.Appends.{appended-none, appended-then}
+use Rattle.base_text.proofs.Appends.{appended-none, appended-then, appended-as}
 use Rattle.base_text.proofs.Digits.{decimal-short}
+use Rattle.set_plan.specs.declared.Plan.{Plan}
 use Rattle.machine_state.specs.declared.State.{State}
 use Rattle.machine_master.specs.declared.Master.{Master}
 use Rattle.machine_node.specs.declared.Node.{Node}
+use Rattle.bus.specs.declared.Move.{Move}
+use Rattle.bus.specs.declared.Moved.{Moved}
 use Rattle.bus.specs.declared.World.{World}
+use Rattle.bus.specs.Moves.{worldAct}
 use Rattle.bus_nodes.specs.Nodes.{nodeAt, nodesUsed}
-use Rattle.drill_text.specs.Lines.{stateLetter, phaseDigit, clockDigit, statusText, nodeText, nodesText, refusalText, moveLine, badLine}
+use Rattle.drill_text.specs.Lines.{stateLetter, phaseDigit, clockDigit, statusText, nodeText, nodesText, refusalText, moveLine, movedLine, badLine}
 
 pub nodes-none : (nodes : List Node) (at : ℕ) (l : List ℕ) → at ≤ largest → Appended at (nodesText nodes 0) l l at
 unfolding nodesText
@@ -43,11 +47,33 @@ nodes-short nodes zero = omega arith
 nodes-short nodes (suc k) =
     omega (arith, length-append (nodesText nodes k) (nodeText (nodeAt nodes k .state) (nodeAt nodes k .error)), nodes-short nodes k, node-short (nodeAt nodes k .state) (nodeAt nodes k .error))
 
-pub move-short : (number : ℕ) (world : World) (nodecount refusal : ℕ) → length (moveLine number world nodecount refusal) ≤ 80
+pub moved-short : (plan : Plan) (number : ℕ) (o : Moved) → length (movedLine plan number o) ≤ 80
 unfolding moveLine refusalText
-move-short number world nodecount refusal =
-    simp length-append (omega (arith, decimal-short number, decimal-short refusal, nodes-short (world .nodes) (nodesUsed nodecount)))
+moved-short plan number o =
+    simp length-append (omega (arith, decimal-short number, decimal-short (o .refusal), nodes-short (o .world .nodes) (nodesUsed (plan .nodecount))))
 
 pub bad-short : (number : ℕ) → length (badLine number) ≤ 80
 unfolding badLine
 bad-short number = simp length-append (omega (arith, decimal-short number))
+
+-- an input printed, a line or a record: the world w′ that it leaves, and the buffer l′ that was l
+pub record Printed (after : World) (text : List ℕ) (at : ℕ) (l l′ : List ℕ) (w′ : World) (end : ℕ) : Type 0 where
+  pub world : w′ ≡ after
+  pub appended : Appended at text l l′ end
+  pub size : length l′ ≡ length l
+
+-- it is no move, or one
+module _ (w : World) (number : ℕ) {after w′ : World} {text : List ℕ} {at q end : ℕ} {l l′ x : List ℕ} where
+  pub printed-bad : after ≡ w → text ≡ badLine number → l′ ≡ x → w′ ≡ w → end ≡ q → Appended at (badLine number) l x q → length x ≡ length l
+      → Printed after text at l l′ w′ end
+  printed-bad a b f g h v n = record { world = g ∙ sym a; appended = rw (b, f, h) v; size = rw f n }
+
+  pub printed-move : (plan : Plan) (m : Move) {o : Moved} → after ≡ worldAct plan w m .world → text ≡ movedLine plan number (worldAct plan w m)
+      → o ≡ worldAct plan w m → l′ ≡ x → w′ ≡ o .world → end ≡ q → Appended at (movedLine plan number o) l x q → length x ≡ length l
+      → Printed after text at l l′ w′ end
+  printed-move plan m a b c f g h v n =
+      record {
+        world = g ∙ ap (λ (y : Moved). y .world) c ∙ sym a;
+        appended = rw (f, h) (appended-as (ap (movedLine plan number) c ∙ sym b) v);
+        size = rw f n;
+      }

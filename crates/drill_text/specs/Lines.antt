@@ -1,5 +1,5 @@
 -- The lines that the drill prints.
-use Prim.Native.Nat.{ℕ, zero, suc}
+use Prim.Native.Nat.{ℕ, zero, suc, _+_, _%_, _^_}
 use mathlib.Core.List.{List, [], _∷_, _++_}
 use mathlib.Core.Bool.{Bool}
 use Rattle.base_lists.specs.Bounded.{ifElse}
@@ -7,6 +7,8 @@ use Rattle.machine_state.specs.declared.State.{State}
 use Rattle.machine_master.specs.declared.Master.{Master}
 use Rattle.machine_master.specs.declared.Phase.{Phase}
 use Rattle.machine_node.specs.declared.Node.{Node}
+use Rattle.set_plan.specs.declared.Plan.{Plan}
+use Rattle.bus.specs.declared.Moved.{Moved}
 use Rattle.bus.specs.declared.World.{World}
 use Rattle.bus_nodes.specs.Nodes.{nodeAt, nodesUsed}
 use Rattle.base_text.specs.Text.{ascii, decimal}
@@ -52,6 +54,14 @@ unfoldable pub moveLine : ℕ → World → ℕ → ℕ → List ℕ
 moveLine number world nodecount refusal =
     decimal number ++ statusText (world .master) ++ nodesText (world .nodes) (nodesUsed nodecount) ++ refusalText refusal
 
+-- the line of what a move gave
+abbrev pub movedLine : Plan → ℕ → Moved → List ℕ
+movedLine plan number moved = moveLine number (moved .world) (plan .nodecount) (moved .refusal)
+
 -- "its number and `?`"
 unfoldable pub badLine : ℕ → List ℕ
 badLine number = decimal number ++ ascii " ?\n"
+
+-- "number from 1": the number of the line after so many, of 64 bits
+abbrev pub nextLine : ℕ → ℕ
+nextLine lines = (lines + 1) % 2 ^ 64

@@ -11,8 +11,8 @@ use Rattle.base_text.specs.Text.{Appended, largest}
 use Rattle.base_text.proofs.Appends.{appended-as}
 use Rattle.drill_feed.specs.declared.Drill.{Drill}
 use Rattle.drill_feed.specs.declared.Held.{Held}
-use Rattle.drill_feed.specs.Feed.{fed, said, keeps}
-use Rattle.drill_feed.proofs.Feeding.{tells-bad, tells-move, ends, turn-state, turn-text, stop-state, stop-text, fed-nothing, said-nothing}
+use Rattle.drill_feed.specs.Feed.{fed, printed, keeps}
+use Rattle.drill_feed.proofs.Feeding.{line-bad, line-move, ends, turn-state, turn-text, stop-state, stop-text, fed-nothing, printed-nothing}
 use borrow.Author.Needs.{needs}
 use Rattle.drill_feed.proofs.Drill.feed_from.Statement.{statement}
 use Rattle.drill_feed.proofs.Drill.feed_from.Tie as tie
@@ -23,13 +23,13 @@ drill plan world lines held = record { plan = plan; world = world; lines = lines
 abbrev Inv-loop : tie.InvT-loop
 Inv-loop input out₀ plan world₀ lines₀ held₀ start₀ next₀ out world lines held start next = (start ≤ length input) × (length input < 2 ^ 64) × (length out ≡ length out₀) × (length out₀ ≤ largest)
     × (drill plan world lines held ≡ fed (drill plan world₀ lines₀ held₀) (take start input))
-    × Appended 0 (said (drill plan world₀ lines₀ held₀) (take start input)) out₀ out next
+    × Appended 0 (printed (drill plan world₀ lines₀ held₀) (take start input)) out₀ out next
 
 abbrev μ-loop : tie.MeasureT-loop
 μ-loop input out₀ plan world₀ lines₀ held₀ start₀ next₀ out world lines held start next = length input - start
 
 loop-holds : tie.Need-loop-holds Inv-loop μ-loop
-loop-holds c = (search needs, search needs, refl, search needs, fed-nothing _, said-nothing _ _)
+loop-holds c = (search needs, search needs, refl, search needs, fed-nothing _, printed-nothing _ _)
 
 line-end-requires : tie.Need-line-end-requires Inv-loop μ-loop
 line-end-requires c κs = search needs
@@ -100,13 +100,13 @@ loop-again c =
     let more = c .before .before .before .before .if1 .left in
     let held = c .before .before .before .before .before .with in
     let d = drill (a .self .plan) (b .world) (b .lines) (b .held) in
-    let told =
-    ⊎-elim (λ x. tells-bad (x .1 .given .1) (x .6) (x .7) (x .8) (x .3 .ensures) (x .3 .kept .0))
-    (λ x. tells-move (x .1 .given .1) (x .10) (x .11) (x .12) (x .3 .ensures) (x .4 .ensures) (x .7 .ensures) (x .7 .kept .0)) (c .before .match .came) in
-    let g = ends (keeps d (held .result)) (c .before .before .before .line .ensures) (c .before .before .wrapping-add-u64 .ensures) (c .empty .ensures) told in (
+    let line =
+    ⊎-elim (λ x. line-bad (d .plan) (d .world) (c .before .before .wrapping-add-u64 .result) (x .1 .given .1) (x .6) (x .7) (x .8) (x .3 .ensures) (x .3 .kept .0))
+    (λ x. line-move (d .plan) (d .world) (c .before .before .wrapping-add-u64 .result) (x .1 .given .1) (x .3 .ensures) (x .4 .ensures) (x .10) (x .11) (x .12) (x .7 .ensures) (x .7 .kept .0)) (c .before .match .came) in
+    let g = ends (keeps d (held .result)) (c .before .before .before .line .ensures) (c .before .before .wrapping-add-u64 .ensures) (c .empty .ensures) line in (
       omega (arith, end .ensures .within, more),
       b .inv .1,
-      told .size ∙ b .inv .2,
+      line .size ∙ b .inv .2,
       b .inv .3,
       turn-state (a .input .now) (b .start) (end .result) (end .ensures) (a .self) d (held .result) (b .inv .4) (held .ensures) more (g .state),
       turn-text (a .input .now) (b .start) (end .result) (end .ensures) (a .self) d (held .result) (b .inv .4) (held .ensures) more (b .inv .3) (b .inv .5) (g .appended),
@@ -120,7 +120,7 @@ returns-2 c =
     let b = c .before .loop in
     let a = c .before .before .before .before .before .before .before .args in
     let e : take (b .start) (a .input .now) ≡ a .input .now = take-all (b .start) (a .input .now) (omega (arith, c .loop-test .left)) in
-    record { state = b .inv .4 ∙ ap (fed (a .self)) e; appended = appended-as (ap (said (a .self)) e) (b .inv .5) }
+    record { state = b .inv .4 ∙ ap (fed (a .self)) e; appended = appended-as (ap (printed (a .self)) e) (b .inv .5) }
 
 pub feed-from-spec : {M : Type 1} → statement M
 feed-from-spec =

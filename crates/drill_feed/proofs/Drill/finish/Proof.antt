@@ -2,7 +2,7 @@
 use mathlib.Core.Path.{refl, _∙_}
 use native.Mathlib.Omega.{arith}
 use Rattle.base_text.proofs.Appends.{appended-as, shown}
-use Rattle.drill_feed.proofs.Feeding.{last-none, last-one, said-end, fed-end, still-fed, ended-fed}
+use Rattle.drill_feed.proofs.Feeding.{last-none, last-one, printed-end, fed-end, still-fed, ended-fed}
 use borrow.Author.Needs.{needs}
 use Rattle.drill_feed.proofs.Drill.finish.Statement.{statement}
 use Rattle.drill_feed.proofs.Drill.finish.Tie as tie
@@ -28,7 +28,7 @@ returns-2 : tie.Need-returns-2
 returns-2 c = (
   record {
     state = c .before .before .before .before .before .feed-from .ensures .state ∙ fed-end _ ∙ ended-fed (c .before .before .before .before .before .before .before .before .before .before .before .before .args .self) (c .before .before .before .before .before .before .before .before .if1 .left);
-    shown = last-one (c .before .before .before .before .before .before .before .before .before .before .before .before .args .self) (c .before .before .before .before .before .before .before .before .if1 .left) (shown (omega (arith, c .before .before .before .before .before .before .before .before .before .before .before .before .good .1 .0 .0)) (appended-as (said-end _) (c .before .before .before .before .before .feed-from .ensures .appended)) (c .below .ensures .0));
+    shown = last-one (c .before .before .before .before .before .before .before .before .before .before .before .before .args .self) (c .before .before .before .before .before .before .before .before .if1 .left) (shown (omega (arith, c .before .before .before .before .before .before .before .before .before .before .before .before .good .1 .0 .0)) (appended-as (printed-end _) (c .before .before .before .before .before .feed-from .ensures .appended)) (c .below .ensures .0));
   },
   c .below .ensures .1,
 )

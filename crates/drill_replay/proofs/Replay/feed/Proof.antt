@@ -11,8 +11,8 @@ use Rattle.base_text.specs.Text.{Appended, largest}
 use Rattle.base_text.proofs.Appends.{appended-as, shown}
 use Rattle.bus_moves.specs.Records.{recordAt, recordCount, records}
 use Rattle.drill_replay.specs.declared.Replay.{Replay}
-use Rattle.drill_replay.specs.Replay.{afterAll, allSaid}
-use Rattle.drill_replay.proofs.Replaying.{tells-bad, tells-move, none-replayed, none-said, more-replayed, more-said}
+use Rattle.drill_replay.specs.Replay.{afterAll, allPrinted}
+use Rattle.drill_replay.proofs.Replaying.{record-bad, record-move, none-replayed, none-printed, more-replayed, more-printed}
 use borrow.Author.Needs.{needs}
 use Rattle.drill_replay.proofs.Replay.feed.Statement.{statement}
 use Rattle.drill_replay.proofs.Replay.feed.Tie as tie
@@ -23,7 +23,7 @@ replay plan world count = record { plan = plan; world = world; count = count }
 abbrev Inv-loop : tie.InvT-loop
 Inv-loop input out₀ plan world₀ number₀ next₀ count k₀ out world number next k = (k ≤ count) × (count ≡ recordCount input) × (length out ≡ length out₀) × (length out₀ ≤ largest)
     × (replay plan world number ≡ afterAll (replay plan world₀ number₀) (tab k (recordAt input)))
-    × Appended 0 (allSaid (replay plan world₀ number₀) (tab k (recordAt input))) out₀ out next
+    × Appended 0 (allPrinted (replay plan world₀ number₀) (tab k (recordAt input))) out₀ out next
 
 abbrev μ-loop : tie.MeasureT-loop
 μ-loop input out₀ plan world₀ number₀ next₀ count k₀ out world number next k = count - k
@@ -32,7 +32,7 @@ record-count-requires : tie.Need-record-count-requires Inv-loop μ-loop
 record-count-requires c κs = search needs
 
 loop-holds : tie.Need-loop-holds Inv-loop μ-loop
-loop-holds c = (search needs, c .record-count .ensures, refl, search needs, none-replayed _ _, none-said _ _ _)
+loop-holds c = (search needs, c .record-count .ensures, refl, search needs, none-replayed _ _, none-printed _ _ _)
 
 record-at-requires : tie.Need-record-at-requires Inv-loop μ-loop
 record-at-requires c κs = search needs
@@ -67,16 +67,16 @@ loop-again c =
     let a = c .before .before .before .before .before .before .before .before .before .before .before .args in
     let within : at .k + 1 ≤ c .before .before .before .before .before .before .record-count .result = omega (arith, c .before .before .before .before .loop-test .taken) in
     let moves = sym (c .before .is-move .ensures) in
-    let told =
-    ⊎-elim (λ x. tells-move (moves ∙ x .0 .taken) (x .8) (x .9) (x .10) (x .1 .ensures) (x .2 .ensures) (x .5 .ensures) (x .5 .kept .0))
-    (λ x. tells-bad (moves ∙ x .0 .left) (x .5) (x .6) (x .7) (x .2 .ensures) (x .2 .kept .0)) (c .if1 .came) in
-    let now = replay (a .self .plan) (at .world) (at .number) in (
+    let now = replay (a .self .plan) (at .world) (at .number) in
+    let line =
+    ⊎-elim (λ x. record-move (now .plan) (now .world) (c .before .before .wrapping-add-u64 .result) (c .before .before .before .record-at .result .now) (moves ∙ x .0 .taken) (x .1 .ensures) (x .2 .ensures) (x .8) (x .9) (x .10) (x .5 .ensures) (x .5 .kept .0))
+    (λ x. record-bad (now .plan) (now .world) (c .before .before .wrapping-add-u64 .result) (c .before .before .before .record-at .result .now) (moves ∙ x .0 .left) (x .5) (x .6) (x .7) (x .2 .ensures) (x .2 .kept .0)) (c .if1 .came) in (
       within,
       at .inv .1,
-      told .size ∙ at .inv .2,
+      line .size ∙ at .inv .2,
       at .inv .3,
-      more-replayed (a .self) (a .input .now) (at .k) now (at .inv .4) (c .before .before .wrapping-add-u64 .ensures) (c .before .before .before .record-at .ensures) told,
-      more-said (a .self) (a .input .now) (at .k) now (at .inv .4) (c .before .before .wrapping-add-u64 .ensures) (c .before .before .before .record-at .ensures) told (at .inv .3) (at .inv .5),
+      more-replayed (a .self) (a .input .now) (at .k) now (at .inv .4) (c .before .before .wrapping-add-u64 .ensures) (c .before .before .before .record-at .ensures) line,
+      more-printed (a .self) (a .input .now) (at .k) now (at .inv .4) (c .before .before .wrapping-add-u64 .ensures) (c .before .before .before .record-at .ensures) line (at .inv .3) (at .inv .5),
     )
 
 below-requires : tie.Need-below-requires Inv-loop μ-loop
@@ -93,7 +93,7 @@ returns c =
     let e : at .k ≡ recordCount (a .input .now) = omega (arith, c .before .before .loop-test .left, at .inv .0, at .inv .1) in (
       record {
         state = at .inv .4 ∙ ap (λ (n : ℕ). afterAll (a .self) (tab n (recordAt (a .input .now)))) e;
-        shown = shown (at .inv .3) (appended-as (ap (λ (n : ℕ). allSaid (a .self) (tab n (recordAt (a .input .now)))) e) (at .inv .5)) (c .below .ensures .0);
+        shown = shown (at .inv .3) (appended-as (ap (λ (n : ℕ). allPrinted (a .self) (tab n (recordAt (a .input .now)))) e) (at .inv .5)) (c .below .ensures .0);
       },
       c .below .ensures .1,
     )
