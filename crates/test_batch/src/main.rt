@@ -5,14 +5,15 @@ ghost use Rattle.machine_batch.specs.Batch.{batchOf, batchReplies};
 use base_bytes::byte_at;
 use base_bytes::number_at;
 use libc::STDIN_FILENO;
-use libc::STDOUT_FILENO;
 use machine_events::EventRecord;
 use machine_events::ReplyRecord;
 use machine_master::Hold;
 use machine_master::Master;
-use machine_master::Phase;
-use machine_state::State;
 use set_plan::Plan;
+use test_output::print;
+use test_output::print_hold;
+use test_output::print_number;
+use test_output::print_status;
 
 // A list's bytes: the plan and the start, then six records of 10.
 const LIST_LENGTH: usize = 62;
@@ -36,39 +37,14 @@ fn run_six(plan: Plan, master: Master, events: [EventRecord; 6], replies: [Reply
     }
 }
 
-fn print(text: &[u8]) {
-    io::write_all(STDOUT_FILENO, text);
-}
-
-fn print_number(number: u64) {
+fn print_item(number: u64) {
     print(b" ");
-    io::print_decimal(STDOUT_FILENO, number);
+    print_number(number);
 }
 
-fn print_state(state: State) {
-    match state {
-        State::Normal => print(b" Normal"),
-        State::Standby => print(b" Standby"),
-        State::Sleep => print(b" Sleep"),
-    }
-}
-
-fn print_phase(phase: Phase) {
-    match phase {
-        Phase::Open => print(b" Open"),
-        Phase::Sending => print(b" Sending"),
-        Phase::Withdrawn => print(b" Withdrawn"),
-        Phase::Closing => print(b" Closing"),
-    }
-}
-
-fn print_hold(hold: Hold) {
-    if hold.held {
-        print(b" held");
-    } else {
-        print(b" -");
-    }
-    print_number(hold.age as u64);
+fn print_permission(hold: Hold) {
+    print(b" ");
+    print_hold(hold);
 }
 
 fn print_master(master: Master) {
@@ -76,30 +52,31 @@ fn print_master(master: Master) {
     let phase = master.phase;
     let holds = master.holds;
     let counts = master.counts;
-    print_state(state);
-    print_phase(phase);
+    let count = counts[16];
+    print(b" ");
+    print_status(state, phase);
     if master.permission {
         print(b" permits");
     }
-    print_hold(holds[0]);
-    print_hold(holds[1]);
-    print_number(counts[16] as u64);
-    print_number(master.delay as u64);
-    print_number(master.ticks as u64);
+    print_permission(holds[0]);
+    print_permission(holds[1]);
+    print_item(count as u64);
+    print_item(master.delay as u64);
+    print_item(master.ticks as u64);
 }
 
 fn print_reply(reply: ReplyRecord) {
     print(b",");
-    print_number(reply.refusal as u64);
-    print_number(reply.node as u64);
-    print_number(reply.command as u64);
-    print_number(reply.lost as u64);
+    print_item(reply.refusal as u64);
+    print_item(reply.node as u64);
+    print_item(reply.command as u64);
+    print_item(reply.lost as u64);
 }
 
 fn print_ran(ran: Ran) {
     let master = ran.master;
     let replies = ran.replies;
-    io::print_decimal(STDOUT_FILENO, ran.refusal as u64);
+    print_number(ran.refusal as u64);
     print_master(master);
     print_reply(replies[0]);
     print_reply(replies[1]);

@@ -1,10 +1,6 @@
 // A test of the drill. Its arguments are pairs of files, a set and a script of moves: of each pair it prints the names, then what
 // the drill prints. tests/drills/make.py writes them.
-use libc::STDOUT_FILENO;
-
-fn print(text: &[u8]) {
-    io::write_all(STDOUT_FILENO, text);
-}
+use test_output::print;
 
 fn run(set_argument: usize, argument: usize) {
     let mut set_name = io::buffer();

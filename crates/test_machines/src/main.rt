@@ -2,6 +2,7 @@
 // shows. It prints the state, the command and the refusal that the step gives. tests/machines/make.py writes the cases.
 use libc::STDIN_FILENO;
 use set_plan::Plan;
+use test_output::print;
 
 mod masters;
 mod nodes;
@@ -109,9 +110,9 @@ fn run_case(text: &[u8], start: usize) -> usize {
         nodes::run(values);
     }
     if shows <= end && end <= text.len() {
-        output::print(&text[shows..end]);
+        print(&text[shows..end]);
     }
-    output::print(b"\n");
+    print(b"\n");
     end
 }
 

@@ -2,11 +2,9 @@
 ghost use Prim.Native.Nat.{_≤_};
 use crate::middle;
 use crate::narrow;
-use crate::output::print;
 use crate::output::print_counts;
 use crate::output::print_flag;
-use crate::output::print_number;
-use crate::output::print_state;
+use crate::output::print_item;
 use crate::plan_of;
 use crate::wide;
 use machine_master::Answer;
@@ -16,6 +14,9 @@ use machine_master::Hold;
 use machine_master::Master;
 use machine_master::Phase;
 use machine_state::state_of;
+use test_output::print;
+use test_output::print_hold;
+use test_output::print_status;
 
 fn phase_of(x: u64) -> Phase {
     match x {
@@ -84,15 +85,6 @@ fn event_of(v: [u64; 22]) -> Event {
     }
 }
 
-fn print_phase(phase: Phase) {
-    match phase {
-        Phase::Open => print(b"Open "),
-        Phase::Sending => print(b"Sending "),
-        Phase::Withdrawn => print(b"Withdrawn "),
-        Phase::Closing => print(b"Closing "),
-    }
-}
-
 fn print_command(command: Command) {
     match command {
         Command::Nothing => print(b"nothing "),
@@ -102,15 +94,6 @@ fn print_command(command: Command) {
     }
 }
 
-fn print_hold(hold: Hold) {
-    if hold.held {
-        print(b"held ");
-    } else {
-        print(b"- ");
-    }
-    print_number(hold.age as u64);
-}
-
 fn print_cause(cause: u8) {
     match cause {
         Master::NEW => {}
@@ -118,7 +101,7 @@ fn print_cause(cause: u8) {
         Master::AGED => print(b"aged "),
         Master::DAMAGED => print(b"damaged "),
         Master::WAKE => print(b"wake "),
-        _ => print_number(cause as u64),
+        _ => print_item(cause as u64),
     }
 }
 
@@ -129,16 +112,18 @@ fn print_master(m: Master, plan: u64) {
     let causes = m.causes;
     let counts = m.counts;
     let node = second(plan);
-    print_state(state);
-    print_phase(phase);
+    print_status(state, phase);
+    print(b" ");
     print_flag(m.permission, b"permits");
     print_hold(holds[0]);
+    print(b" ");
     print_cause(causes[0]);
     print_hold(holds[node]);
+    print(b" ");
     print_cause(causes[node]);
     print_counts(counts);
-    print_number(m.delay as u64);
-    print_number(m.ticks as u64);
+    print_item(m.delay as u64);
+    print_item(m.ticks as u64);
 }
 
 pub(crate) fn run(v: [u64; 22]) {
@@ -147,7 +132,7 @@ pub(crate) fn run(v: [u64; 22]) {
     let command = reply.command;
     print_master(next, v[1]);
     print_command(command);
-    print_number(reply.refusal as u64);
-    print_number(reply.node as u64);
-    print_number(reply.lost as u64);
+    print_item(reply.refusal as u64);
+    print_item(reply.node as u64);
+    print_item(reply.lost as u64);
 }

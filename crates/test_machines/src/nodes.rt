@@ -1,11 +1,9 @@
 // Cases of a node.
 use crate::middle;
 use crate::narrow;
-use crate::output::print;
 use crate::output::print_counts;
 use crate::output::print_flag;
-use crate::output::print_number;
-use crate::output::print_state;
+use crate::output::print_item;
 use crate::plan_of;
 use crate::wide;
 use machine_node::Command;
@@ -13,6 +11,8 @@ use machine_node::Delay;
 use machine_node::Event;
 use machine_node::Node;
 use machine_state::state_of;
+use test_output::print;
+use test_output::print_state;
 
 fn delay_of(x: u64) -> Delay {
     if x == 0 {
@@ -64,9 +64,9 @@ fn print_command(command: Command) {
             count,
         } => {
             print(b"send ");
-            print_number(permission as u64);
-            print_number(wake as u64);
-            print_number(count as u64);
+            print_item(permission as u64);
+            print_item(wake as u64);
+            print_item(count as u64);
         }
     }
 }
@@ -74,7 +74,7 @@ fn print_command(command: Command) {
 fn print_delay(delay: Delay) {
     match delay {
         Delay::Off => print(b"- "),
-        Delay::On(ticks) => print_number(ticks as u64),
+        Delay::On(ticks) => print_item(ticks as u64),
     }
 }
 
@@ -83,14 +83,15 @@ fn print_node(n: Node) {
     let delay = n.delay;
     let counts = n.counts;
     print_state(state);
+    print(b" ");
     print_flag(n.permission, b"permits");
     print_flag(n.error, b"error");
     print_flag(n.wake, b"wake");
     print_flag(n.heard, b"heard");
     print_flag(n.caller, b"caller");
-    print_number(n.quiet as u64);
+    print_item(n.quiet as u64);
     print_delay(delay);
-    print_number(n.standby as u64);
+    print_item(n.standby as u64);
     print_counts(counts);
 }
 
@@ -100,5 +101,5 @@ pub(crate) fn run(v: [u64; 22]) {
     let command = reply.command;
     print_node(next);
     print_command(command);
-    print_number(reply.refusal as u64);
+    print_item(reply.refusal as u64);
 }

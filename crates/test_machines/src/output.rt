@@ -1,14 +1,9 @@
-// What the test prints.
-use libc::STDOUT_FILENO;
-use machine_state::State;
+// What the test prints, each with a space behind it.
 use set_plan::Row;
+use test_output::print;
 
-pub(crate) fn print(text: &[u8]) {
-    io::write_all(STDOUT_FILENO, text);
-}
-
-pub(crate) fn print_number(number: u64) {
-    io::print_decimal(STDOUT_FILENO, number);
+pub(crate) fn print_item(number: u64) {
+    test_output::print_number(number);
     print(b" ");
 }
 
@@ -19,18 +14,10 @@ pub(crate) fn print_flag(flag: bool, word: &[u8]) {
     }
 }
 
-pub(crate) fn print_state(state: State) {
-    match state {
-        State::Normal => print(b"Normal "),
-        State::Standby => print(b"Standby "),
-        State::Sleep => print(b"Sleep "),
-    }
-}
-
 // The counts of the plan's first two rows.
 pub(crate) fn print_counts(counts: [u8; Row::REQIDS]) {
     let first = counts[16];
     let second = counts[17];
-    print_number(first as u64);
-    print_number(second as u64);
+    print_item(first as u64);
+    print_item(second as u64);
 }

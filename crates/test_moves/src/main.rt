@@ -2,36 +2,17 @@
 // master, with its phase, and of both nodes, `!` for an error; then the same under the plan of panels that never sleep and under one
 // whose rows have variable lengths, and at the end of the first file under a refused plan.
 use bus_moves::Ran;
-use libc::STDOUT_FILENO;
-use machine_master::Phase;
 use machine_node::Node;
-use machine_state::State;
 use program_files::plan_in;
 use set_plan::Plan;
-
-fn print(text: &[u8]) {
-    io::write_all(STDOUT_FILENO, text);
-}
-
-fn print_state(state: State) {
-    match state {
-        State::Normal => print(b" Normal"),
-        State::Standby => print(b" Standby"),
-        State::Sleep => print(b" Sleep"),
-    }
-}
-
-fn print_phase(phase: Phase) {
-    match phase {
-        Phase::Open => print(b" Open"),
-        Phase::Sending => print(b" Sending"),
-        Phase::Withdrawn => print(b" Withdrawn"),
-        Phase::Closing => print(b" Closing"),
-    }
-}
+use test_output::print;
+use test_output::print_number;
+use test_output::print_state;
+use test_output::print_status;
 
 fn print_node(node: Node) {
     let state = node.state;
+    print(b" ");
     print_state(state);
     if node.error {
         print(b"!");
@@ -40,13 +21,13 @@ fn print_node(node: Node) {
 
 fn print_ran(ran: Ran) {
     print(b" ");
-    io::print_decimal(STDOUT_FILENO, ran.refusal as u64);
+    print_number(ran.refusal as u64);
     let world = ran.world;
     let master = world.master;
     let state = master.state;
     let phase = master.phase;
-    print_state(state);
-    print_phase(phase);
+    print(b" ");
+    print_status(state, phase);
     let nodes = world.nodes;
     print_node(nodes[0]);
     print_node(nodes[1]);

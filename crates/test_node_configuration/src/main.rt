@@ -1,11 +1,12 @@
-// A test of the node configuration. Each argument is a case in hex: a request, then the length of the answer buffer. A node from the
+// A test of the node configuration. Each argument is a case in hex: a request, then the length of the response buffer. A node from the
 // moulding line takes them one after the other; its address is blank at first, and each buffer holds AA throughout. Of a case it prints
 // the request, what came of it, the address then and the buffer. Last it counts the refusals of requests of every length to 4,096.
 ghost use Prim.Native.Nat.{_≤_};
-use libc::STDOUT_FILENO;
 use machine_node_configuration::Identity;
 use machine_node_configuration::Reply;
 use machine_node_configuration::configure;
+use test_output::print;
+use test_output::print_number;
 
 const NODE: Identity = Identity {
     supplier: 0x0123,
@@ -14,12 +15,8 @@ const NODE: Identity = Identity {
     serial: 0x01020304,
 };
 
-// As long can a request or an answer buffer be.
+// As long can a request or a response buffer be.
 const ROOM: usize = 16;
-
-fn print(text: &[u8]) {
-    io::write_all(STDOUT_FILENO, text);
-}
 
 fn print_byte(byte: u8) {
     let mut text = [32u8; 3];
@@ -58,27 +55,27 @@ fn decode(word: &[u8], bytes: &mut [u8]) -> usize {
     i
 }
 
-fn print_outcome(reply: Reply, answer: &[u8]) {
+fn print_outcome(reply: Reply, response: &[u8]) {
     if reply.refusal != 0 {
         print(b": refused ");
-        io::print_decimal(STDOUT_FILENO, reply.refusal as u64);
+        print_number(reply.refusal as u64);
         return;
     }
     if reply.length == 0 {
         print(b": silence");
         return;
     }
-    let length = base_text::below(answer, reply.length as usize);
-    print_bytes(b": answer", &answer[..length]);
+    let length = base_text::below(response, reply.length as usize);
+    print_bytes(b": answer", &response[..length]);
 }
 
 // Gives the address after the case.
-fn run(address: u8, request: &[u8], answer: &mut [u8]) -> u8 {
+fn run(address: u8, request: &[u8], response: &mut [u8]) -> u8 {
     print_bytes(b"request", request);
-    let reply = configure(NODE, address, request, answer);
-    print_outcome(reply, answer);
+    let reply = configure(NODE, address, request, response);
+    print_outcome(reply, response);
     print_bytes(b", address", &[reply.address]);
-    print_bytes(b", buffer", answer);
+    print_bytes(b", buffer", response);
     print(b"\n");
     reply.address
 }
@@ -119,7 +116,7 @@ fn refused_by(refusal: u8, text: &[u8]) -> u64 {
 }
 
 fn print_refused(refusal: u8, text: &[u8], label: &[u8]) {
-    io::print_decimal(STDOUT_FILENO, refused_by(refusal, text));
+    print_number(refused_by(refusal, text));
     print(label);
 }
 

@@ -1,15 +1,12 @@
 // A test of reader and writer. Of each file that an argument names it prints the name, the refusal or 0, and the set in
 // words; then what the writer makes of the record, in a buffer with room and in one of 1,023 bytes.
-use libc::STDOUT_FILENO;
 use set_plan::Plan;
+use test_output::print;
+use test_output::print_number;
 
-fn print(text: &[u8]) {
-    io::write_all(STDOUT_FILENO, text);
-}
-
-fn print_number(number: usize) {
+fn print_item(number: usize) {
     print(b" ");
-    io::print_decimal(STDOUT_FILENO, number as u64);
+    print_number(number as u64);
 }
 
 // Whether the front of a buffer holds a set and the rest is as it was.
@@ -27,10 +24,10 @@ fn holds(buffer: &[u8], set: &[u8]) -> bool {
 
 // Writes a set's record into a buffer that held the byte 170 throughout, and prints what became of it.
 fn write_back(plan: Plan, set: &[u8], buffer: &mut [u8]) {
-    let answer = set_writer::write(plan, buffer);
+    let result = set_writer::write(plan, buffer);
     print(b"write");
-    print_number(answer.refusal as usize);
-    print_number(answer.length);
+    print_item(result.refusal as usize);
+    print_item(result.length);
     if holds(buffer, b"") {
         print(b" untouched\n");
         return;
@@ -49,9 +46,9 @@ fn show_file(argument: usize) {
     let mut set = program_files::set_room();
     let read = program_files::read_file(b"test_sets", &name[..name_length], &mut set);
     let count = read.count;
-    let answer = set_reader::read(&set[..count]);
-    let plan = answer.plan;
-    print_number(answer.refusal as usize);
+    let result = set_reader::read(&set[..count]);
+    let plan = result.plan;
+    print_item(result.refusal as usize);
     print(b"\n");
     let mut out = io::large_buffer();
     let length = set_text::show(&set[..count], &mut out);

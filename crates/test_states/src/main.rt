@@ -91,9 +91,9 @@ fn main() {
     let mut set = program_files::set_room();
     let read = program_files::read_file(b"test_states", b"plan.set", &mut set);
     let count = read.count;
-    let answer = set_reader::read(&set[..count]);
-    let plan = answer.plan;
-    if answer.refusal == 0 {
+    let result = set_reader::read(&set[..count]);
+    let plan = result.plan;
+    if result.refusal == 0 {
         run(plan);
     }
 }
