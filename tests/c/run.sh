@@ -1,9 +1,9 @@
 #!/bin/sh
 # Runs two lists of tests at once. One is of the C calls, against the archive that it builds: each export under sanitizers, the comparisons
 # with the independent implementation, the headers and the symbols, the firmware and the station example, the archives for controllers; by
-# gcc, and by clang where it is present. The other is of the documents and their links, held to the repository, and of the programs: how they
-# are called, the drill, the explanation and the replay of recorded moves against independent ones, the drill's picture. A line for each
-# test; target/tests has what it said.
+# gcc, and by clang where it is present. The other is of the documents and their links, held to the repository, of the stored cases, by
+# mutations of the code, and of the programs: how they are called, the drill, the explanation and the replay of recorded moves against
+# independent ones, the drill's picture. A line for each test; target/tests has what it said.
 set -eu
 cd "$(dirname "$0")/../.."
 . tests/gate/try.sh
@@ -101,6 +101,9 @@ test_documents() {
 }
 
 test_programs() {
+    # The stored cases refuse wrong code: the outputs that rt ci compared hold the rules.
+    try mutations_test python3 tests/mutations/run_test.py
+    try mutations python3 tests/mutations/run.py
     try programs_arguments sh tests/programs/run.sh
     # The independent drill, by the moves of R6.7; the drill's lines as a picture.
     try independent_drill sh $independent/check_drill.sh

@@ -7,8 +7,9 @@ An entry starts with its number, `**R1.1**`. Each number of REQUIREMENTS.md stan
   defined, proved: `crate/File, File: name, name`, of specs/ or of proofs/, or the files alone
   promised: in backquotes functions with an `ensures`
   where: in backquotes names of the code, and paths
-  tested: sets of test_sets; `crate/must-fail/name, name`; `proved case 1`; after a word of CASES, in italics, cases, in which `..` stands for
-    any text; paths, and behind one and a colon functions and, in italics, texts of the file; in backquotes programs, and lines that test_sets prints
+  tested: sets of test_sets; `crate/must-fail/name, name`; `crate/mutations/name, name`, of tests/mutations; `proved case 1`; after a word of
+    CASES, in italics, cases, in which `..` stands for any text; paths, and behind one and a colon functions and, in italics, texts of the file; in
+    backquotes programs, and lines that test_sets prints
 What stands in brackets is prose; an item of no such form is refused. In prose, what stands in backquotes must be a name of the code, a
 definition, a theorem or a path, unless it is a formula, which has spaces. Numbers of requirements are there, and no line is longer than WIDTH."""
 import collections
@@ -23,7 +24,7 @@ NUMBER = r"R\d+\.\d+"
 LINE = r"- (\w+): (.+)"
 FILE = r"[a-z_]+/[A-Z]\w*"
 FILES = r"%s(?:, (?:[a-z_]+/)?[A-Z]\w*)*" % FILE
-EDITS = r"([a-z_]+/must-fail)(?:/(.+))?"
+EDITS = r"([a-z_]+/(?:must-fail|mutations))(?:/(.+))?"
 PROVED_CASES = r"proved cases? (.+)"
 PATH = r"[\w.-]+(?:/[\w.-]+)+|crates\.txt"
 CASES = ["master", "node", "drill", "drill set", "why", "why set", "moves"]
@@ -85,6 +86,8 @@ class Repository:
         self.specs, self.proofs, self.code = stated("specs", DEFINITION), stated("proofs", THEOREM), Code()
         self.names = self.code.names.union(*self.specs.values(), *self.proofs.values())
         self.edits = {path[len("crates/"):-len(".edit")] for path in glob.glob("crates/*/must-fail/*.edit")}
+        mutations = [path[:-len(".edit")].split("/")[-2:] for path in glob.glob("tests/mutations/*/*.edit")]
+        self.edits |= {"/mutations/".join(path) for path in mutations}
         self.sets = {path[:-len(".set")] for path in lines_of("crates/test_sets/args")}
         lines = [line.split(" ", CASE_NUMBERS) for line in lines_of("crates/test_machines/stdin")]
         self.cases = {"master": [line[-1] for line in lines if line[0] == "0"], "node": [line[-1] for line in lines if line[0] == "1"]}
@@ -209,7 +212,7 @@ class Trace:
     def edits(self, folder, names):
         """Edits of a crate, or all of them."""
         if names is None:
-            self.hold("path", folder, os.path.isdir("crates/" + folder))
+            self.hold("path", folder, any(edit.startswith(folder + "/") for edit in self.repository.edits))
         for name in items(names) if names else []:
             self.hold("edit", folder + "/" + name, folder + "/" + name in self.repository.edits)
 

@@ -48,8 +48,9 @@ MISSPELT = [
     # tests: sets, edits, all edits of a crate, proved cases, paths, functions and texts of a file, lines printed, programs, prose
     ("one_block, third_block_of_zeros", "one_blocks, third_block_of_zeros"),
     ("no_row to kind_4_and_silent", "no_row to kind_4_and_silence"),
-    ("base_bytes/must-fail/check_from_508, check_stops_at_1\n", "base_bytes/must-fail/check_from_509, check_stops_at_1\n"),
-    ("set_plan/must-fail/reqid_127, reqid_again;", "set_plan/must-fail/reqid_127, reqids_again;"),
+    ("base_bytes/mutations/check_from_508, check_stops_at_1\n", "base_bytes/mutations/check_from_509, check_stops_at_1\n"),
+    ("set_plan/mutations/reqid_127, reqid_again;", "set_plan/mutations/reqid_127, reqids_again;"),
+    ("cxpi/must-fail/node_not_named;", "cxpi/must-fail/nodes_not_named;"),
     ("examples/station; cxpi/must-fail\n", "examples/station; cxpi_why/must-fail\n"),
     ("proved cases 10, 11", "proved cases 10, 12"),
     ("tests/c/exports.c (each of sixteen nodes)", "tests/c/export.c (each of sixteen nodes)"),
