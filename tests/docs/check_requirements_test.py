@@ -17,7 +17,7 @@ ELSEWHERE = [
     ("| 2 | clock off | CLOCK_OFF |\n", ""),
     ("| `cxpi_node_step` | the same | zeros in the reply, the state as it was |\n", ""),
     ("| 22 F1 8C hex | | 62 F1 8C hex, serial number (4) |\n", ""),
-    ("| 8 | bytes of the longest answer | CONFIGURATION_LENGTH |\n", "| 8 | bytes of the longest answer | CONFIGURATION_LENGTH |\n" * 2),
+    ("| 8 | bytes of the longest response | CONFIGURATION_LENGTH |\n", "| 8 | bytes of the longest response | CONFIGURATION_LENGTH |\n" * 2),
     # a table that is no longer known by its head
     ("| Number | Given exactly when | In cxpi.h |", "| Number | Given when | In cxpi.h |"),
     ("| Bytes | Record |\n", "| Bytes | Recorded |\n"),
