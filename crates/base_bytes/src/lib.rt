@@ -1,4 +1,6 @@
 // Bytes at offsets, and the check of a 512-byte block.
+#![tactic(auto)]
+
 mod bytes;
 mod check;
 

@@ -1,5 +1,7 @@
 // Text appended to a lent buffer, and texts compared. What lies past the buffer's end is dropped, and the index that comes back tells how
 // much room the text takes, so that no caller has to reckon lengths.
+#![tactic(auto)]
+
 ghost use Rattle.std.specs.Prelude.{◌≡◌, ◌+◌, ◌%◌, min, length};
 ghost use Rattle.base_text.specs.Text.{same, Appended, Counts, largest, digits_in, decimal, hex_digit, hex_byte};
 

@@ -1,4 +1,6 @@
 // The master and its nodes on a bus: what a move does to them.
+#![tactic(auto)]
+
 ghost use Rattle.std.specs.Prelude.{◌≡◌};
 ghost use Rattle.bus.specs.World.{power_on, stays};
 ghost use Rattle.bus.specs.Moves.{world_act, world_step};
@@ -16,13 +18,13 @@ mod ticks;
 mod what_passed;
 
 // All machines of a plan; nodes from its number on stay as they are.
-#[derive(Drop)]
+#[derive(Clone, Copy)]
 pub struct World {
     pub master: Master,
     pub nodes: [Node; Plan::NODES],
 }
 
-#[derive(Drop)]
+#[derive(Clone, Copy)]
 pub enum Act {
     Tick,
     // an application's ask to wake
@@ -42,7 +44,7 @@ pub enum Act {
 }
 
 // What the bus made of a damaged answer, whose ReqId it keeps.
-#[derive(Drop)]
+#[derive(Clone, Copy)]
 pub struct Damage {
     // not 0
     pub result: u16,
@@ -54,7 +56,7 @@ pub struct Damage {
 }
 
 // What becomes of an answer.
-#[derive(Drop)]
+#[derive(Clone, Copy)]
 pub enum Fate {
     // with the length that one of a variable row is sent with; above the row's own it is the row's own
     Whole(u16),
@@ -63,7 +65,7 @@ pub enum Fate {
 }
 
 // What the bus does in a move.
-#[derive(Drop)]
+#[derive(Clone, Copy)]
 pub struct Bus {
     // the nodes that a request or a sleep message reaches
     pub reached: [bool; Plan::NODES],
@@ -74,14 +76,14 @@ pub struct Bus {
     pub fate: Fate,
 }
 
-#[derive(Drop)]
+#[derive(Clone, Copy)]
 pub struct Move {
     pub act: Act,
     pub bus: Bus,
 }
 
 // A permission that an application gave or took back.
-#[derive(Drop)]
+#[derive(Clone, Copy)]
 pub enum PermissionChange {
     Nobody,
     Master(bool),
@@ -89,14 +91,14 @@ pub enum PermissionChange {
 }
 
 // What reaches the master of a node's sending.
-#[derive(Drop)]
+#[derive(Clone, Copy)]
 pub enum Arrival {
     Nothing,
     Answer { row: Row, answer: Answer },
 }
 
 // What became of a sleep message.
-#[derive(Drop)]
+#[derive(Clone, Copy)]
 pub enum SendResult {
     Unknown,
     Sent,
@@ -104,7 +106,7 @@ pub enum SendResult {
 }
 
 // What passed in a move.
-#[derive(Drop)]
+#[derive(Clone, Copy)]
 pub struct Passed {
     // a tick, the clock as it left it, and whether it commanded the clock off
     pub tick: bool,
@@ -124,7 +126,7 @@ pub struct Passed {
 }
 
 // What a move gives.
-#[derive(Drop)]
+#[derive(Clone, Copy)]
 pub struct Moved {
     pub world: World,
     pub refusal: u8,
@@ -132,7 +134,7 @@ pub struct Moved {
 }
 
 // What becomes of a publisher's reply at the master.
-#[derive(Drop)]
+#[derive(Clone, Copy)]
 pub struct Delivered {
     pub master: Master,
     pub refusal: u8,

@@ -13,6 +13,8 @@
 //
 // Bytes 0, 3, 8, 14 and 15 are judged in every record, byte 2 in acts 3, 4 and 8; the others may be anything, also where the act does
 // not read them.
+#![tactic(auto)]
+
 ghost use Rattle.std.specs.Prelude.{◌≡◌};
 ghost use Rattle.bus.specs.World.{power_on};
 ghost use Rattle.bus_claims.specs.Claims.{Claims};
@@ -33,7 +35,7 @@ pub use records::{record_at, record_count};
 pub const MOVE_LENGTH: usize = 16;
 
 // The machines after a list of moves, or why it did not run.
-#[derive(Drop)]
+#[derive(Clone, Copy)]
 pub struct Ran {
     pub refusal: u8,
     pub world: World,

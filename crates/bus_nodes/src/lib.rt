@@ -1,4 +1,6 @@
 // The nodes of a bus: a tick of them, messages that reach some of them, and their limits.
+#![tactic(auto)]
+
 ghost use Rattle.std.specs.Prelude.{◌≡◌};
 ghost use Rattle.bus_nodes.specs.Nodes.{nodes_used};
 
@@ -14,7 +16,7 @@ pub use range::nodes_in_range;
 pub use ticks::tick_nodes;
 
 // The nodes that sent a wake-up pulse in a move.
-#[derive(Drop)]
+#[derive(Clone, Copy)]
 pub enum Callers {
     Nobody,
     One(u8),
@@ -22,7 +24,7 @@ pub enum Callers {
 }
 
 // What can reach several nodes.
-#[derive(Drop)]
+#[derive(Clone, Copy)]
 pub enum Message {
     Pulse(Callers),
     // a request, with what the plan has for its ReqId
@@ -31,7 +33,7 @@ pub enum Message {
 }
 
 // The nodes after a tick, and those of them that sent a pulse in it.
-#[derive(Drop)]
+#[derive(Clone, Copy)]
 pub struct Ticked {
     pub nodes: [Node; Plan::NODES],
     pub callers: Callers,

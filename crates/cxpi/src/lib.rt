@@ -1,4 +1,6 @@
 // The C firmware host's calls: a byte slice is a pointer and a length. include/cxpi.h declares them, docs/LAYOUTS.md has the bytes.
+#![tactic(auto)]
+
 ghost use Rattle.std.specs.Prelude.{◌≡◌};
 ghost use Rattle.cxpi.specs.Version.{version};
 

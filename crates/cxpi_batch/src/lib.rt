@@ -1,4 +1,6 @@
 // The C firmware host's call for the master's events of a frame slot. An archive of its own: the steps of `cxpi` stay as the compiler makes them.
+#![tactic(auto)]
+
 ghost use Rattle.std.specs.Prelude.{◌≡◌};
 ghost use Rattle.set_record.specs.Record.{record_of};
 ghost use Rattle.machine_master.specs.Step.{master_step};

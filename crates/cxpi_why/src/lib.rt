@@ -1,4 +1,6 @@
 // The C host's call that tells why a master is awake, an archive's member of its own as `cxpi_batch` is.
+#![tactic(auto)]
+
 ghost use Rattle.std.specs.Prelude.{◌≡◌, length};
 ghost use Rattle.cxpi_why.specs.ReasonCalls.{reason_reply, reason_leaves};
 

@@ -1,4 +1,6 @@
 // The drill: moves from standard input under a set.
+#![tactic(auto)]
+
 use libc::STDIN_FILENO;
 
 fn main() {

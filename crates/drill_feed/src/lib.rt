@@ -1,4 +1,6 @@
 // The drill: input in pieces of any length to the text that it prints.
+#![tactic(auto)]
+
 ghost use Rattle.std.specs.Prelude.{◌≡◌, ◌≤◌, length};
 ghost use Rattle.base_text.specs.Text.{Counts};
 ghost use Rattle.drill_line.specs.Parse.{parse_line};
@@ -11,13 +13,13 @@ use drill_text::{append_bad, append_move};
 use set_plan::Plan;
 
 // The first bytes of a line that has not ended. Longer lines are no moves, so the others are not missed.
-#[derive(Drop)]
+#[derive(Clone, Copy)]
 pub struct Held {
     pub bytes: [u8; Held::ROOM],
     pub count: usize,
 }
 
-#[derive(Drop)]
+#[derive(Clone, Copy)]
 pub struct Drill {
     pub plan: Plan,
     pub world: World,
@@ -27,7 +29,7 @@ pub struct Drill {
 }
 
 // A drill after a piece of input, and how many bytes of text the piece gave.
-#[derive(Drop)]
+#[derive(Clone, Copy)]
 pub struct Fed {
     pub drill: Drill,
     pub length: usize,

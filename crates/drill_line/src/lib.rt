@@ -1,4 +1,6 @@
 // A line of the drill's input: the move that its words name.
+#![tactic(auto)]
+
 ghost use Rattle.std.specs.Prelude.{◌≡◌, ◌∷◌, ◌+◌, ◌<◌, length, take, drop};
 ghost use Rattle.drill_line.specs.Words.{words, first_space, digit_of, two_digits, three_digits, number_of};
 ghost use Rattle.drill_line.specs.Parse.{who_of, fate_of, one_word, wake_of, sent_of, two_words, permit_who, permit_of, request_of, three_words, send_who, send_of, four_words, line_of, parse_line, on_drill_bus};
@@ -9,14 +11,14 @@ use bus::{Act, Bus, Damage, Fate, Move};
 use set_plan::{Plan, Row};
 
 // What becomes of an answer: H.
-#[derive(Drop)]
+#[derive(Clone, Copy)]
 pub enum FateWord {
     Is(Fate),
     Unknown,
 }
 
 // Whom a move names: X.
-#[derive(Drop)]
+#[derive(Clone, Copy)]
 pub enum Who {
     Master,
     Node(u8),
@@ -24,7 +26,7 @@ pub enum Who {
 }
 
 // A move in its parts: an enum that holds arrays, as a `Move` has, takes proofs by hand.
-#[derive(Drop)]
+#[derive(Clone, Copy)]
 pub enum Line {
     // the act, whether its message reaches all nodes or none, and what becomes of its answer
     Move(Act, bool, Fate),

@@ -1,4 +1,6 @@
 // Recorded moves to text: for each record the drill's line of its move, or `?` where it is no move.
+#![tactic(auto)]
+
 ghost use Rattle.std.specs.Prelude.{◌≡◌};
 ghost use Rattle.base_text.specs.Text.{Counts};
 ghost use Rattle.drill_replay.specs.Replay.{started, replayed, printed, Gives};
@@ -9,7 +11,7 @@ use bus_moves::{is_move, move_of, record_at, record_count};
 use drill_text::{append_bad, append_move};
 use set_plan::Plan;
 
-#[derive(Drop)]
+#[derive(Clone, Copy)]
 pub struct Replay {
     pub plan: Plan,
     pub world: World,
@@ -18,7 +20,7 @@ pub struct Replay {
 }
 
 // A replay after a piece of input, and how many bytes of text the piece gave.
-#[derive(Drop)]
+#[derive(Clone, Copy)]
 pub struct Fed {
     pub replay: Replay,
     pub length: usize,

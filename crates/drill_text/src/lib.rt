@@ -1,4 +1,6 @@
 // The lines that the drill prints.
+#![tactic(auto)]
+
 ghost use Rattle.std.specs.Prelude.{◌≡◌};
 ghost use Rattle.base_text.specs.Text.{Appended};
 ghost use Rattle.bus_nodes.specs.Nodes.{nodes_used};

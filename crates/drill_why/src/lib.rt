@@ -1,4 +1,6 @@
 // The line that tells why a master is awake.
+#![tactic(auto)]
+
 ghost use Rattle.std.specs.Prelude.{◌++◌};
 ghost use Rattle.base_text.specs.Text.{Appended, ascii, decimal};
 ghost use Rattle.drill_why.specs.Line.{cause_word, reason_word, why_word, why_line};

@@ -1,4 +1,6 @@
 // A list of the master's events in one call.
+#![tactic(auto)]
+
 ghost use Rattle.std.specs.Prelude.{◌≡◌};
 ghost use Rattle.machine_batch.specs.Batch.{stepped_by, batch_of, batch_replies};
 
@@ -7,14 +9,14 @@ use machine_master::Master;
 use set_plan::{Plan, plan_refusal};
 
 // The master after an event, and the reply to it.
-#[derive(Drop)]
+#[derive(Clone, Copy)]
 pub struct Stepped {
     pub master: Master,
     pub reply: ReplyRecord,
 }
 
 // 22 or 0, and the master after the last event.
-#[derive(Drop)]
+#[derive(Clone, Copy)]
 pub struct Batch {
     pub refusal: u8,
     pub master: Master,

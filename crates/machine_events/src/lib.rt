@@ -1,4 +1,6 @@
 // The master's events and replies as records of numbers.
+#![tactic(auto)]
+
 ghost use Rattle.std.specs.Prelude.{◌≡◌};
 ghost use Rattle.machine_events.specs.Events.{no_event, plain_event, flagged_event, answer_event, event_of};
 ghost use Rattle.machine_events.specs.Replies.{command_number};
@@ -7,7 +9,7 @@ use machine_master::{Answer, Command, Event};
 
 // An event of the master. Each field can hold a wrong number; those that a kind does not use are ignored.
 #[repr(C)]
-#[derive(Drop)]
+#[derive(Clone, Copy)]
 pub struct EventRecord {
     pub kind: u8,
     // of an answer, up to its wake bit
@@ -23,7 +25,7 @@ pub struct EventRecord {
 
 // What a step gives beside the master.
 #[repr(C)]
-#[derive(Drop)]
+#[derive(Clone, Copy)]
 pub struct ReplyRecord {
     pub refusal: u8,
     // the node that 20 names

@@ -1,4 +1,6 @@
 // The master machine.
+#![tactic(auto)]
+
 ghost use Rattle.std.specs.Prelude.{◌≡◌};
 ghost use Rattle.machine_master.specs.Changes.{power_on, silent, commands, refuse};
 ghost use Rattle.machine_master.specs.Step.{event_right, row_asked, act_with, step_in_range, step_with, step_under, judged_step, master_step};
@@ -18,7 +20,7 @@ pub use answers::lost_after;
 pub use holds::{first_not_held, older};
 
 // How far a sleep message has come.
-#[derive(Drop)]
+#[derive(Clone, Copy)]
 pub enum Phase {
     Open,
     // its result is awaited
@@ -29,7 +31,7 @@ pub enum Phase {
     Closing,
 }
 
-#[derive(Drop)]
+#[derive(Clone, Copy)]
 pub enum Command {
     Nothing,
     ClockOn,
@@ -38,7 +40,7 @@ pub enum Command {
 }
 
 // An answer that reached the master.
-#[derive(Drop)]
+#[derive(Clone, Copy)]
 pub struct Answer {
     pub reqid: u8,
     // 0 where it is undamaged
@@ -49,7 +51,7 @@ pub struct Answer {
     pub wake: bool,
 }
 
-#[derive(Drop)]
+#[derive(Clone, Copy)]
 pub enum Event {
     Tick,
     Answer(Answer),
@@ -66,13 +68,13 @@ pub enum Event {
 }
 
 // A node's permission to sleep: held or not, and the ticks since it was given.
-#[derive(Drop)]
+#[derive(Clone, Copy)]
 pub struct Hold {
     pub held: bool,
     pub age: u16,
 }
 
-#[derive(Drop)]
+#[derive(Clone, Copy)]
 pub struct Master {
     pub state: State,
     pub phase: Phase,
@@ -88,7 +90,7 @@ pub struct Master {
     pub ticks: u32,
 }
 
-#[derive(Drop)]
+#[derive(Clone, Copy)]
 pub struct Reply {
     pub master: Master,
     pub command: Command,

@@ -1,4 +1,6 @@
 // The node machine.
+#![tactic(auto)]
+
 ghost use Rattle.std.specs.Prelude.{◌≡◌};
 ghost use Rattle.machine_node.specs.Changes.{power_on, to_sleep, to_normal, to_standby, silent, calls, refuse};
 ghost use Rattle.machine_node.specs.Step.{event_right, row_asked, act_with, step_with, step_under, node_step};
@@ -12,13 +14,13 @@ mod ticks;
 mod waking;
 
 // The sleep delay that a sleep message starts.
-#[derive(Drop)]
+#[derive(Clone, Copy)]
 pub enum Delay {
     Off,
     On(u16),
 }
 
-#[derive(Drop)]
+#[derive(Clone, Copy)]
 pub enum Command {
     Nothing,
     // a wake-up pulse
@@ -31,7 +33,7 @@ pub enum Command {
     },
 }
 
-#[derive(Drop)]
+#[derive(Clone, Copy)]
 pub enum Event {
     // with clock or without
     Tick(bool),
@@ -48,7 +50,7 @@ pub enum Event {
     SendAsk(u8),
 }
 
-#[derive(Drop)]
+#[derive(Clone, Copy)]
 pub struct Node {
     pub state: State,
     pub permission: bool,
@@ -69,7 +71,7 @@ pub struct Node {
     pub counts: [u8; Row::REQIDS],
 }
 
-#[derive(Drop)]
+#[derive(Clone, Copy)]
 pub struct Reply {
     pub node: Node,
     pub command: Command,

@@ -1,5 +1,7 @@
 // The node side of UDSonCXPI's node configuration, W-202: a request assigns the address, which stands beside the node's state and is read
 // by no machine, or reads the identity.
+#![tactic(auto)]
+
 ghost use Rattle.std.specs.Prelude.{◌≡◌, length};
 ghost use Rattle.machine_node_configuration.specs.Responses.{refuse, configured, responded};
 ghost use Rattle.machine_node_configuration.specs.Identity.{identity_of};
@@ -13,7 +15,7 @@ mod responses;
 
 pub use offsets::IDENTITY_LENGTH;
 
-#[derive(Drop)]
+#[derive(Clone, Copy)]
 pub struct Identity {
     pub supplier: u16,
     pub function: u16,
@@ -22,7 +24,7 @@ pub struct Identity {
     pub serial: u32,
 }
 
-#[derive(Drop)]
+#[derive(Clone, Copy)]
 pub struct Reply {
     pub refusal: u8,
     // of the response, 0 for silence and refusals
@@ -32,7 +34,7 @@ pub struct Reply {
 }
 
 // A response in the 8 bytes of the longest, the rest 0.
-#[derive(Drop)]
+#[derive(Clone, Copy)]
 struct Response {
     bytes: [u8; 8],
     length: u8,

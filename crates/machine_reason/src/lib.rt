@@ -1,4 +1,6 @@
 // Why a master is awake: the first reason for which a sleep ask is not accepted (W-205).
+#![tactic(auto)]
+
 ghost use Rattle.std.specs.Prelude.{◌≡◌, get_or};
 ghost use Rattle.machine_master.specs.Changes.{cause_new};
 ghost use Rattle.machine_reason.specs.Numbers.{cause_number, reason_numbers};
@@ -9,7 +11,7 @@ use machine_state::State;
 use set_plan::{Plan, Times, plan_refusal};
 
 // Why a node's permission is not held.
-#[derive(Drop)]
+#[derive(Clone, Copy)]
 pub enum Cause {
     New,
     Refused,
@@ -19,7 +21,7 @@ pub enum Cause {
 }
 
 // The first that stands in the way of a sleep ask.
-#[derive(Drop)]
+#[derive(Clone, Copy)]
 pub enum Reason {
     Nothing,
     UnderWay,
@@ -31,7 +33,7 @@ pub enum Reason {
 }
 
 // The reason, or a refusal's number and no reason.
-#[derive(Drop)]
+#[derive(Clone, Copy)]
 pub struct Explained {
     pub refusal: u8,
     pub reason: Reason,

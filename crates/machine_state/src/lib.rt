@@ -1,4 +1,6 @@
 // What master and node share: their states, a table of sequence counts by ReqId, and states, flags and such a table as bytes.
+#![tactic(auto)]
+
 ghost use Rattle.std.specs.Prelude.{◌≡◌, ◌≤◌, ltb, eqb, get_or, set};
 ghost use Rattle.machine_state.specs.Counts.{counts_below};
 ghost use Rattle.machine_state.specs.State.{is_normal, start_state};
@@ -10,7 +12,7 @@ mod bytes;
 pub use bytes::{flag_byte, state_byte, state_of, table_at};
 
 // The states of network management (ISO 20794-2, 9.3.2).
-#[derive(Drop)]
+#[derive(Clone, Copy)]
 pub enum State {
     Normal,
     Standby,

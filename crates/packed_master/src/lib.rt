@@ -1,4 +1,6 @@
 // The master's states, events and replies as bytes, and its step on them.
+#![tactic(auto)]
+
 mod events;
 mod offsets;
 mod replies;

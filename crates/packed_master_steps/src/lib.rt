@@ -1,4 +1,6 @@
 // What ticks and answers, the events that fill a frame slot, do to a master, in the bytes of its state.
+#![tactic(auto)]
+
 ghost use Rattle.std.specs.Prelude.{◌≡◌, ◌+◌, ◌*◌, [], ◌∷◌, nat_lt};
 ghost use Rattle.std.proofs.lemmas.List.Edits.{sets};
 ghost use Rattle.base_lists.specs.Bounded.{if_else};
@@ -15,7 +17,7 @@ use packed_master::{CAUSES_AT, COUNTS_AT, HOLDS_AT, PHASE_AT, STATE_AT, TICKS_AT
 use set_plan::{Lookup, Plan, Row};
 
 // Whether an event is done in the bytes of a state.
-#[derive(Drop)]
+#[derive(Clone, Copy)]
 pub enum Outcome {
     // with the answers lost before it; its reply commands nothing and is no refusal
     Done(u8),

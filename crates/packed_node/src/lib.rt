@@ -1,4 +1,6 @@
 // A node's states, events and replies as bytes.
+#![tactic(auto)]
+
 mod events;
 mod offsets;
 mod replies;

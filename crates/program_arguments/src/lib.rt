@@ -1,4 +1,6 @@
 // What a program's arguments ask for, and how it says what it takes.
+#![tactic(auto)]
+
 ghost use Rattle.std.specs.Prelude.{◌≡◌};
 ghost use Rattle.base_text.specs.Text.{Appended, Shown, Counts};
 ghost use Rattle.program_arguments.specs.Arguments.{invocation_by_one, invocation_of, usage_text, help_text};
@@ -6,7 +8,7 @@ ghost use Rattle.program_arguments.specs.Arguments.{invocation_by_one, invocatio
 use base_bytes::byte_at;
 use base_text::{append, below, same};
 
-#[derive(Drop)]
+#[derive(Clone, Copy)]
 pub enum Invocation {
     // the set in plan.set
     Default,

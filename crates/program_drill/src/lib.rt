@@ -1,5 +1,7 @@
 // The drill on files: it reads moves and writes their lines. What a file holds is outside any promise; what is printed for it is
 // drill_feed's.
+#![tactic(auto)]
+
 ghost use Rattle.std.specs.Prelude.{◌≡◌, length};
 ghost use Rattle.set_reader.specs.Read.{read_set};
 
@@ -10,7 +12,7 @@ use machine_reason::explain;
 use program_files::print;
 use set_plan::Plan;
 
-#[derive(Drop)]
+#[derive(Clone, Copy)]
 struct Turn {
     drill: Drill,
     more: bool,

@@ -1,5 +1,7 @@
 // What the programs share: the set's file, named by their argument, what they read and print, and what they say on standard error. What a
 // file holds and whether a write succeeds is outside any promise, so of reading only the count is promised.
+#![tactic(auto)]
+
 ghost use Rattle.std.specs.Prelude.{ℕ, List, ◌≡◌, false, replicate};
 ghost use Rattle.io.specs.Counts.{IsPrefixLen};
 ghost use Rattle.set_reader.specs.Read.{read_set};
@@ -11,7 +13,7 @@ use set_plan::Plan;
 use set_reader::ReadResult;
 
 // How many bytes were read, and whether none failed to be.
-#[derive(Drop)]
+#[derive(Clone, Copy)]
 pub struct FileRead {
     pub whole: bool,
     pub count: usize,

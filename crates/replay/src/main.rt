@@ -1,10 +1,12 @@
 // Replays recorded moves, records of 16 bytes from standard input, under a set: prints the drill's line of each.
+#![tactic(auto)]
+
 ghost use Rattle.std.specs.Prelude.{◌≡◌, length};
 
 use drill_replay::Replay;
 use libc::STDIN_FILENO;
 
-#[derive(Drop)]
+#[derive(Clone, Copy)]
 struct Turn {
     replay: Replay,
     more: bool,

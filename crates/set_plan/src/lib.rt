@@ -1,4 +1,6 @@
 // The plan record of a release set. Every value is a number that can hold a wrong one, so that a wrong record is refused and not impossible.
+#![tactic(auto)]
+
 ghost use Rattle.std.specs.Prelude.{◌≡◌};
 ghost use Rattle.set_plan.specs.Record.{zero_plan, entry_at};
 ghost use Rattle.set_plan.specs.Answering.{is_polled, is_counted, is_variable, accepts};
@@ -12,7 +14,7 @@ pub use rules::{
     between, entry_right, plan_refusal, profile_right, row_after, table_index, times_right,
 };
 
-#[derive(Drop)]
+#[derive(Clone, Copy)]
 pub struct NodeEntry {
     pub address: u8,
     // diagnostic class, 1 to 3
@@ -23,7 +25,7 @@ pub struct NodeEntry {
     pub reserved: u8,
 }
 
-#[derive(Drop)]
+#[derive(Clone, Copy)]
 pub struct Row {
     pub reqid: u8,
     // a node number, or 255 for the master
@@ -34,7 +36,7 @@ pub struct Row {
 }
 
 // Times in ticks of 1 ms.
-#[derive(Drop)]
+#[derive(Clone, Copy)]
 pub struct Times {
     // W: how long a permission is held
     pub window: u16,
@@ -52,7 +54,7 @@ pub struct Times {
     pub start: u16,
 }
 
-#[derive(Drop)]
+#[derive(Clone, Copy)]
 pub struct Plan {
     pub revision: u16,
     // 1 for panels whose power the ignition cuts, 0 otherwise
@@ -65,7 +67,7 @@ pub struct Plan {
 }
 
 // What a ReqId's lookup finds.
-#[derive(Drop)]
+#[derive(Clone, Copy)]
 pub enum Lookup {
     Found(Row),
     Missing,

@@ -1,4 +1,6 @@
 // The reader of release sets.
+#![tactic(auto)]
+
 ghost use Rattle.std.specs.Prelude.{◌≡◌, length};
 ghost use Rattle.set_plan.specs.Record.{zero_plan};
 ghost use Rattle.set_record.specs.Record.{record_written};
@@ -13,7 +15,7 @@ mod rules;
 
 pub use offsets::{CHECK_AT, ENTRIES_AT, LONG_LENGTH, ROWS_AT, SHORT_LENGTH};
 
-#[derive(Drop)]
+#[derive(Clone, Copy)]
 pub struct ReadResult {
     pub refusal: u8,
     pub plan: Plan,

@@ -1,5 +1,7 @@
 // The packed plan record: a plan as bytes and back, and the plan in a lent record judged and read where an event needs it, without a
 // record being made. Bytes of another length are taken for the all-zero record.
+#![tactic(auto)]
+
 ghost use Rattle.std.specs.Prelude.{◌≡◌};
 ghost use Rattle.set_plan.specs.Answering.{is_polled};
 ghost use Rattle.set_plan.specs.Find.{find_row, rising_row};

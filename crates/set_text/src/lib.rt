@@ -1,4 +1,6 @@
 // A release set in words.
+#![tactic(auto)]
+
 ghost use Rattle.std.specs.Prelude.{◌≤◌};
 ghost use Rattle.base_text.specs.Text.{Appended, Shown, Counts};
 ghost use Rattle.set_plan.specs.Limits.{max_nodes, max_rows};

@@ -1,4 +1,6 @@
 // The writer of release sets.
+#![tactic(auto)]
+
 ghost use Rattle.std.specs.Prelude.{◌≡◌, length};
 ghost use Rattle.set_record.specs.Record.{record_of};
 ghost use Rattle.set_writer.specs.Write.{write_refusal, write_result, written};
@@ -7,7 +9,7 @@ use set_plan::Plan;
 
 mod set_blocks;
 
-#[derive(Drop)]
+#[derive(Clone, Copy)]
 pub struct WriteResult {
     pub refusal: u8,
     // of the set, 0 where it is refused

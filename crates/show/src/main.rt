@@ -1,4 +1,6 @@
 // Shows a set in words.
+#![tactic(auto)]
+
 fn main() {
     let mut set = program_files::set_room();
     let file = program_files::read_set(

@@ -1,5 +1,7 @@
 // A test of the master's batch call. Its input is lists of six event records, each after a byte for the plan and one for the start. Of each it
 // prints what the call answers, the master, and seven replies: a place more than there are events. tests/batches/make.py writes the lists.
+#![tactic(auto)]
+
 ghost use Rattle.std.specs.Prelude.{◌≡◌};
 ghost use Rattle.machine_batch.specs.Batch.{batch_of, batch_replies};
 
@@ -13,7 +15,7 @@ use test_output::{print, print_hold, print_number, print_status};
 // A list's bytes: the plan and the start, then six records of 10.
 const LIST_LENGTH: usize = 62;
 
-#[derive(Drop)]
+#[derive(Clone, Copy)]
 struct Ran {
     refusal: u8,
     master: Master,

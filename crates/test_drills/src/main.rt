@@ -1,5 +1,7 @@
 // A test of the drill. Its arguments are pairs of files, a set and a script of moves: of each pair it prints the names, then what
 // the drill prints. tests/drills/make.py writes them.
+#![tactic(auto)]
+
 use test_output::print;
 
 fn run(set_argument: usize, argument: usize) {

@@ -1,5 +1,7 @@
 // A test of both machines. Each line of its input is a case: numbers that give a plan, a state and an event, and what the case
 // shows. It prints the state, the command and the refusal that the step gives. tests/machines/make.py writes the cases.
+#![tactic(auto)]
+
 use libc::STDIN_FILENO;
 use set_plan::Plan;
 use test_output::print;
@@ -9,13 +11,13 @@ mod nodes;
 mod output;
 
 // A number, and the place past the separator behind it.
-#[derive(Drop)]
+#[derive(Clone, Copy)]
 struct Parsed {
     value: u64,
     next: usize,
 }
 
-#[derive(Drop)]
+#[derive(Clone, Copy)]
 struct Case {
     values: [u64; 22],
     next: usize,

@@ -1,6 +1,8 @@
 // A test of the running bus. Of each file of moves that an argument names it prints the name, the refusal, and the states of the
 // master, with its phase, and of both nodes, `!` for an error; then the same under the plan of panels that never sleep and under one
 // whose rows have variable lengths, and at the end of the first file under a refused plan.
+#![tactic(auto)]
+
 use bus_moves::Ran;
 use machine_node::Node;
 use program_files::plan_in;

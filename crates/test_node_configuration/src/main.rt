@@ -1,6 +1,8 @@
 // A test of the node configuration. Each argument is a case in hex: a request, then the length of the response buffer. A node from the
 // moulding line takes them one after the other; its address is blank at first, and each buffer holds AA throughout. Of a case it prints
 // the request, what came of it, the address then and the buffer. Last it counts the refusals of requests of every length to 4,096.
+#![tactic(auto)]
+
 ghost use Rattle.std.specs.Prelude.{◌≤◌};
 
 use machine_node_configuration::{Identity, Reply, configure};

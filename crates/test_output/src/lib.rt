@@ -1,5 +1,7 @@
 // What test programs print: texts, numbers, and parts of a machine in words. No promise can say what was written, so each says that there
 // is no other result.
+#![tactic(auto)]
+
 ghost use Rattle.std.specs.Prelude.{◌≡◌};
 
 use libc::STDOUT_FILENO;

@@ -1,5 +1,7 @@
 // A test of reader and writer. Of each file that an argument names it prints the name, the refusal or 0, and the set in
 // words; then what the writer makes of the record, in a buffer with room and in one of 1,023 bytes.
+#![tactic(auto)]
+
 use set_plan::Plan;
 use test_output::{print, print_number};
 

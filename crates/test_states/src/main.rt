@@ -7,6 +7,8 @@
 //  203-2490  the sixteen nodes, packed
 //
 // For a refused set nothing is written.
+#![tactic(auto)]
+
 ghost use Rattle.std.specs.Prelude.{◌≤◌, length};
 
 use base_bytes::put;
@@ -17,7 +19,7 @@ use packed_master::put_master;
 use packed_node::put_node;
 use set_plan::Plan;
 
-#[derive(Drop)]
+#[derive(Clone, Copy)]
 struct Turn {
     world: World,
     more: bool,

@@ -1,4 +1,6 @@
 // Why the master is awake after a drill's moves: the drill's lines, then one more.
+#![tactic(auto)]
+
 use libc::STDIN_FILENO;
 
 fn main() {

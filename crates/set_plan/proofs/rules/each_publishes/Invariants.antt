@@ -1,0 +1,12 @@
+-- Each number so far is marked. Assumes nothing.
+use Prim.Native.Nat.{◌-◌, ◌≤◌}
+use mathlib.Core.Path.{◌≡◌}
+use mathlib.Core.Bool.{true}
+use Rattle.base_lists.specs.Bounded.{all_to}
+use Rattle.set_plan.proofs.rules.each_publishes.Given as goal
+
+abbrev pub invariant-loop-k : goal.invariant-loop-k
+invariant-loop-k l = (l.k ≤ l.nodecount) × (all_to (mark l.seen) l.k ≡ true)
+
+abbrev pub decreases-loop-k : goal.decreases-loop-k
+decreases-loop-k l = l.nodecount - l.k
