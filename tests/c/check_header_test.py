@@ -86,8 +86,8 @@ def main():
               (HEADER, "a constant left out", 0, re.sub(r"^#define CXPI_FILLER .*\n", "", header, flags=re.M)),
               (HEADER, "a constant too many", 0, header.replace("#define CXPI_FILLER", "#define CXPI_OTHER 0\n#define CXPI_FILLER")),
               (LAYOUTS, "a row left out", 0, re.sub(r"^\| 9 \| of a set alone.*\n", "", layouts, flags=re.M)),
-              (LAYOUTS, "no such definition", 0, layouts.replace("recordEntry", "recordRecord")),
-              (LAYOUTS, "no such definition of a call", 0, layouts.replace("configureLeaves", "configureKeeps"))]
+              (LAYOUTS, "no such definition", 0, layouts.replace("record_entry", "record_record")),
+              (LAYOUTS, "no such definition of a call", 0, layouts.replace("configure_leaves", "configure_keeps"))]
     missed = ["%s: %s, by %d: not found" % (path, what, by) for path, what, by, text in tried if not is_found(path, text)]
 
     probed = list(edits(header, constants(header)))

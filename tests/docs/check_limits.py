@@ -14,7 +14,7 @@ FOLDED = r"\((?:[^()]|\([^()]*\))*\)|\S+"  # what a fold is over: a name, or a t
 # where each kind of source says a length or a bound
 BOUNDS = {
     ".rt": [r";\s*" + NUMBER + r"\s*\]", r"\bwhile\b[^{]*?<=?\s*\(?" + NUMBER],
-    ".antt": [r"\b(?:tab|replicate)\s+" + NUMBER, r"\b(?:allTo|anyTo|firstTo|sumTo)\s+(?:" + FOLDED + r")\s+" + NUMBER],
+    ".antt": [r"\b(?:tab|replicate)\s+" + NUMBER, r"\b(?:all_to|any_to|first_to|sum_to)\s+(?:" + FOLDED + r")\s+" + NUMBER],
     ".c": [r"^\s*(?:\w[\w *]*[ *]|.*, \*?)\w+(?:\[\w+\])*\[" + NUMBER + r"\]", r"\bfor \([^;]*;[^;]*<=?\s*" + NUMBER],
 }
 BOUNDS[".h"] = BOUNDS[".cpp"] = BOUNDS[".c"]
@@ -31,7 +31,7 @@ def named_in(pattern, form):
     named = {}
     for path in sorted(glob.glob(pattern)):
         for name, number in re.findall(form, read_file(path), flags=re.M):
-            if LEAST <= int(number) and not re.search(r"_AT$|At$", name):
+            if LEAST <= int(number) and not re.search(r"_AT$|_at$", name):
                 named.setdefault(int(number), []).append(name)
     return named
 

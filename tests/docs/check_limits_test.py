@@ -14,9 +14,9 @@ WRITTEN = [
     ("crates/machine_state/src/lib.rt", "while i < Row::REQIDS", "while i < 128", "REQIDS"),
     ("crates/set_record/src/unpacking.rt", "while j < (Plan::ROWS as u32)", "while j < (127 as u32)", "ROWS"),
     # definitions: a list, equal elements, a test of each
-    ("crates/machine_master/specs/Ticks.antt", "tab maxNodes", "tab 16", "maxNodes"),
+    ("crates/machine_master/specs/Ticks.antt", "tab max_nodes", "tab 16", "max_nodes"),
     ("crates/machine_master/specs/Changes.antt", "replicate reqids", "replicate 128", "reqids"),
-    ("crates/machine_state/specs/Counts.antt", "allTo (countBelow limit counts) reqids", "allTo (countBelow limit counts) 128", "reqids"),
+    ("crates/machine_state/specs/Counts.antt", "all_to (count_below limit counts) reqids", "all_to (count_below limit counts) 128", "reqids"),
     # C: an array, one among others, a loop
     ("examples/firmware/main.c", "[CXPI_PLAN_LENGTH]", "[592]", "CXPI_PLAN_LENGTH"),
     ("tests/c/compare.c", "reply[CXPI_MASTER_REPLY_LENGTH];", "plan[592];", "CXPI_PLAN_LENGTH"),

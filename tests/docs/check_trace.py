@@ -33,6 +33,9 @@ BRACKETS = r"(%s)|( ?\([^()]*\))" % MARKED
 DEFINITION = r"^(?:\w+ )?pub (?:record |data )?([^\s:]+)"
 THEOREM = r"^ *(?:\w+ )?pub (?:record |data )?([^\s:]+)|^(?:  )?([^\s:]+) :"  # a module indents it; one of an example need not be public
 VISIBLE = r"(?:pub(?:\(crate\))? )?"
+# its name, and its head up to the line that opens its body, which is no clause
+FUNCTION = r"^ *" + VISIBLE + r'(?:extern "C" )?fn (\w+)([^\n]*\{$|.*?^ *(?:(?!requires\b|ensures\b)\S[^\n]*)?\{$)'
+PROMISE = r"^ *ensures(?: \w+)? \{"  # `ensures { .. }`, and with its name where a function has several
 FORMULA = r" |NAME|CRATE|^(?:ensures|requires)$"  # and forms of names, and words of the language
 CASE_NUMBERS = 22  # before the text of a line of test_machines; the first is 0 for a master, 1 for a node
 
@@ -74,9 +77,9 @@ class Code:
         for owner, body in methods + [(crate, re.sub(r"^impl (\w+) \{\n(.*?)^\}", "", text, flags=re.M | re.S))]:
             for name in re.findall(r"^ *" + VISIBLE + r"const (\w+)", body, flags=re.M):
                 self.names |= {name, owner + "::" + name}
-            for name, head in re.findall(r"^ *" + VISIBLE + r'(?:extern "C" )?fn (\w+)(.*?\{$)', body, flags=re.M | re.S):
+            for name, head in re.findall(FUNCTION, body, flags=re.M | re.S):
                 self.names |= {name, owner + "::" + name}
-                if "ensures {" in head:
+                if re.search(PROMISE, head, flags=re.M):
                     self.promised |= {name, owner + "::" + name}
 
 

@@ -11,21 +11,21 @@ from check_trace import BRACKETS, LINE, TRACE, Repository, Trace, paragraphs, re
 # Texts of TRACE.md, each once in it, and what they become.
 MISSPELT = [
     # definitions: a file, a name, one of a list, in two files, files alone, both ends of a row, a part without a file
-    ("set_plan/Rules: revisionRight; set_reader/Rules: revisionsSame", "set_plan/Rule: revisionRight; set_reader/Rules: revisionsSame"),
-    ("base_bytes/Bytes: number, highByte, lowByte, twoBytes", "base_bytes/Bytes: number, highByte, lowByte, twoByte"),
-    ("planNamed, messageNamed, named", "planNamed, messageName, named"),
-    ("machine_node/Step, machine_master/Step: stepWith", "machine_node/Step, machine_master/Step: stepsWith"),
+    ("set_plan/Rules: revision_right; set_reader/Rules: revisions_same", "set_plan/Rule: revision_right; set_reader/Rules: revisions_same"),
+    ("base_bytes/Bytes: number, high_byte, low_byte, two_bytes", "base_bytes/Bytes: number, high_byte, low_byte, two_byte"),
+    ("plan_named, message_named, named", "plan_named, message_name, named"),
+    ("machine_node/Step, machine_master/Step: step_with", "machine_node/Step, machine_master/Step: steps_with"),
     ("cxpi/MasterCalls, NodeCalls, Chains", "cxpi/MasterCalls, NodeCall, Chains"),
-    ("causeNew to causeWake", "causeNew to causeWaken"),
-    ("- defined: set_plan/Limits: blockRows", "- defined: blockRows"),
-    ("- defined: base_bytes/Limits: blockLength", "- defined: base_bytes/Limits: blockLength, as it was"),
+    ("cause_new to cause_wake", "cause_new to cause_waken"),
+    ("- defined: set_plan/Limits: block_rows", "- defined: block_rows"),
+    ("- defined: base_bytes/Limits: block_length", "- defined: base_bytes/Limits: block_length, as it was"),
     # what the code declares: a field, a constant, a type of a crate, a formula, and in prose a type and a theorem
     ("`Master.permission`, `Master.holds`", "`Master.permission`, `Master.hold`"),
     ("`Plan::BLOCK_ROWS`", "`Plan::BLOCKS_ROWS`"),
     ("`Master`, `Phase`, `machine_state::State`", "`Master`, `Phase`, `machine_master::State`"),
     ("- where: `Plan::ROWS`", "- where: `Plan :: ROWS`"),
     ("as facts (`Passed`)", "as facts (`Passes`)"),
-    ("`claims-hold` in `crates/", "`claims-holds` in `crates/"),
+    ("`claims_hold` in `crates/", "`claims_holds` in `crates/"),
     # paths: of the code, of a document, in prose
     ("`crates/machine_master/src/holds.rt`", "`crates/machine_master/src/hold.rt`"),
     ("- where: crates.txt", "- where: crate.txt"),
@@ -38,13 +38,13 @@ MISSPELT = [
     ("- promised: `times_right`", "- promised: times_right"),
     ("- promised: `cxpi_version`", "- promised: `cxpi_version`, as it was"),
     # theorems: a name, one of a list, its file, its crate, of two files, a file alone, a definition in place of one
-    ("set_writer/Kept: length-kept", "set_writer/Kept: lengths-kept"),
-    ("number-only, number-given, none-only", "number-only, numbers-given, none-only"),
-    ("set_writer/Kept: counts-kept", "set_writer/Keep: counts-kept"),
-    ("machine_node/WithClock: on-wake-ask", "machine_master/WithClock: on-wake-ask"),
+    ("set_writer/Kept: length_kept", "set_writer/Kept: lengths_kept"),
+    ("number_only, number-given, none_only", "number_only, numbers_given, none_only"),
+    ("set_writer/Kept: counts_kept", "set_writer/Keep: counts_kept"),
+    ("machine_node/WithClock: on_wake_ask", "machine_master/WithClock: on_wake_ask"),
     ("bus_claims/ExamplesAwake: first, stopped, later", "bus_claims/ExamplesAwake: first, stops, later"),
     ("proved: machine_master/InRun;", "proved: machine_master/InRuns;"),
-    ("proved: machine_master/NoBearing: SameButCauses", "proved: machine_master/Range: inRange"),
+    ("proved: machine_master/NoBearing: SameButCauses", "proved: machine_master/Range: in_range"),
     # tests: sets, edits, all edits of a crate, proved cases, paths, functions and texts of a file, lines printed, programs, prose
     ("one_block, third_block_of_zeros", "one_blocks, third_block_of_zeros"),
     ("no_row to kind_4_and_silent", "no_row to kind_4_and_silence"),
