@@ -7,21 +7,25 @@ import tempfile
 
 RUN = os.path.abspath(os.path.join(os.path.dirname(__file__), "run.py"))
 SOURCE = "let limit = 3;\nlet room = 8;\n"
-# By the source: 4 is printed, 2 is not compiled, 1 ends otherwise; anything else is as stored.
+# By the source: 4 is printed, 2 is not compiled, 1 ends otherwise; anything else is as stored, the input and the arguments with their files.
 RT = """#!/bin/sh
-case $(cat crates/part/src/lib.rt) in
-*"limit = 4"*) echo "FAIL: ended, but did not write what is expected"; exit 1 ;;
-*"limit = 2"*) echo "the front end rejected the crate"; exit 2 ;;
-*"limit = 1"*) echo "FAIL: did not end"; exit 1 ;;
+case $(cat src/lib.rt) in
+*"limit = 4"*) echo 4; exit 0 ;;
+*"limit = 2"*) echo "the front end rejected the crate" >&2; exit 2 ;;
+*"limit = 1"*) echo "killed" >&2; exit 6 ;;
 esac
+cat
+echo "$@"
 exit ${STATUS:-0}
 """
+STORED = {"args": "a.set\nb\n", "data/a.set": "", "stdin": "3\n", "stdout": "3\ntry --seconds 300 --data a.set=data/a.set -- a.set b\n"}
 
 
 def tried(edit, **environment):
     """The status and the last line for an edit."""
     with tempfile.TemporaryDirectory() as folder:
         files = {"crates.txt": "part:\n", "crates/part/src/lib.rt": SOURCE, "tests/mutations/part/one.edit": edit, "rt": RT}
+        files.update(("crates/part/" + path, text) for path, text in STORED.items())
         for path, text in files.items():
             path = os.path.join(folder, path)
             os.makedirs(os.path.dirname(path), exist_ok=True)
