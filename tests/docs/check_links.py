@@ -4,7 +4,8 @@ Usage: check_links.py, at the repository's root.
 
 A link or an image leads to what the repository has, and with a #fragment to a heading; one with a scheme is not followed. A path that
 begins with a folder of FOLDERS, and a name as the top and docs have them, is there; in a path `*`, CRATE and FILE stand for any text
-without `/`, and docs/changes may have names of their day (docs/changes/NAMES.md). target/ and .git are no part of the repository.
+without `/`, and docs/changes and docs/PORT.md may have names of their day (docs/changes/NAMES.md). target/, out/ of a crate and .git are
+no part of the repository.
 A page that says what the drill prints has the moves and lines of crates/drill.
 The two papers from which the product was built are called by their numbers in PAPERS alone; other pages, and sources, cite requirements."""
 import collections
@@ -13,7 +14,8 @@ import posixpath
 import re
 import sys
 
-NAMES, CHANGES = "docs/changes/NAMES.md", "docs/changes/"
+NAMES, OF_THEIR_DAY = "docs/changes/NAMES.md", ("docs/changes/", "docs/PORT.md")
+OUTSIDE = r"\.git|target|crates/\w+/out"
 PAPERS = ["docs/%s.md" % name for name in ("SOURCES", "DECISIONS", "CONFORMANCE", "TRACE", "REQUIREMENTS")]
 FOLDERS = "crates|tests|docs|tools|include|firmware|examples"
 PATH = r"(?<![\w./*-])(?:%s)/[\w./*-]*" % FOLDERS
@@ -50,7 +52,7 @@ class Repository:
     def __init__(self):
         self.files, self.paths = [], {"."}
         for folder, folders, files in os.walk("."):
-            folders[:] = [name for name in folders if posixpath.normpath(posixpath.join(folder, name)) not in (".git", "target")]
+            folders[:] = [name for name in folders if not re.fullmatch(OUTSIDE, posixpath.normpath(posixpath.join(folder, name)))]
             self.files += sorted(posixpath.normpath(posixpath.join(folder, name)) for name in files if name != ".git")
             self.paths.update(posixpath.normpath(posixpath.join(folder, name)) for name in folders)
         self.paths.update(self.files)
@@ -86,7 +88,7 @@ class Page:
             self.hold("heading", fragment in anchors(text), target)
 
     def named(self, path):
-        of_its_day = self.path.startswith(CHANGES) and path in self.repository.changed
+        of_its_day = self.path.startswith(OF_THEIR_DAY) and path in self.repository.changed
         self.hold("path", of_its_day or self.repository.has(path), path)
 
     def name(self, name):
@@ -98,7 +100,7 @@ class Page:
 
     def cited(self):
         """In the whole text, since a line may end within."""
-        for match in [] if self.path in PAPERS or self.path.startswith(CHANGES) else re.finditer(CITED, self.text):
+        for match in [] if self.path in PAPERS or self.path.startswith(OF_THEIR_DAY) else re.finditer(CITED, self.text):
             self.line = self.text.count("\n", 0, match.start()) + 1
             self.hold("citation", False, "d" + " ".join(match[0].split()))
 

@@ -8,6 +8,7 @@ sys.dont_write_bytecode = True
 from check_links import PAPERS, README, README_LINES, Repository, page_of, read_file
 
 ARCHITECTURE, W_204, HOST, SOURCE = "docs/ARCHITECTURE.md", "docs/changes/W-204.md", "examples/firmware/README.md", "tests/c/run.sh"
+PORT = "docs/PORT.md"
 NUMBER = " 0" + "1"  # apart, since this file may not cite either
 
 # A file, a text that is once in it, or none for the file's end, what it becomes, and what is then wrong.
@@ -37,6 +38,8 @@ WRONG = [
     (ARCHITECTURE, "", "`include/*.c`\n", "path: include/*.c"),
     (ARCHITECTURE, "", "`tests/runs`\n", "path: tests/runs"),
     (W_204, "", "`tests/run`\n", "path: tests/run"),
+    (PORT, "", "`tools/makeproof`\n", "path: tools/makeproof"),
+    (ARCHITECTURE, "", "`tools/mkproof`\n", "path: tools/mkproof"),
     # names of the top and of docs
     (README, "", "CHANGES.md\n", "name: CHANGES.md"),
     (ARCHITECTURE, "", "`LAYOUT.md`\n", "name: LAYOUT.md"),
@@ -65,6 +68,7 @@ RIGHT = [
     (README, 120 * "µ" + "\n"),
     (HOST, 160 * "µ" + "\n"),
     (W_204, "`tests/runs`; document%s\n" % NUMBER),
+    (PORT, "`tools/mkproof`\n"),
     (SOURCE, "# see crates/test_drills/data/document-01, docs/NONE.md; %s\n" % (200 * "x")),
 ] + [(path, "document%s\n" % NUMBER) for path in PAPERS]
 
