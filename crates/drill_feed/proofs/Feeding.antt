@@ -19,7 +19,7 @@ use Rattle.drill_feed.specs.declared.Held.{Held}
 use Rattle.drill_feed.specs.Feed.{line_moved, world_after, line_text, empty_held, hold_byte, hold_all, held_line, ended, line_printed, keeps, byte_fed, byte_printed, fed, printed, last_printed, LineEnd, Gives, last_fed}
 
 -- a line printed
-abbrev LinePrinted : Plan → World → ℕ → Line → ℕ → List ℕ → List ℕ → World → ℕ → Type 0
+abbrev pub LinePrinted : Plan → World → ℕ → Line → ℕ → List ℕ → List ℕ → World → ℕ → Type 0
 LinePrinted plan w number line = Printed (world_after plan w line) (line_text plan w number line)
 
 module _ (plan : Plan) (w : World) (number : ℕ) {line : Line} {w' : World} {at q r : ℕ} {l l' x : List ℕ} where

@@ -63,7 +63,7 @@ unfolding records
 room_enough r input = omega (arith, all_short r (records input), length-tab (record_count input) (record_at input))
 
 -- a record printed
-abbrev RecordPrinted : Plan → World → ℕ → List ℕ → ℕ → List ℕ → List ℕ → World → ℕ → Type 0
+abbrev pub RecordPrinted : Plan → World → ℕ → List ℕ → ℕ → List ℕ → List ℕ → World → ℕ → Type 0
 RecordPrinted plan w number s = Printed (world_after plan w s) (record_text plan w number s)
 
 module _ (plan : Plan) (w : World) (number : ℕ) (s : List ℕ) {w' : World} {at q end : ℕ} {l l' x : List ℕ} where
