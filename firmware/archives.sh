@@ -14,7 +14,7 @@ clang=$toolchain/bin/clang
 # plans and states would be copied from frame to frame, for twice the stack. The second is for what stands behind many refusals, which clang
 # takes for cold.
 common="-mllvm -inline-threshold=3000 -mllvm -inline-cold-callsite-threshold=3000 -ffunction-sections -fdata-sections -mllvm -trap-unreachable -mllvm -no-trap-after-noreturn \
---no-default-config -no-canonical-prefixes -fintegrated-cc1 -fno-crash-diagnostics -Werror"
+-mllvm -disable-machine-licm -mllvm -disable-postra-machine-licm -mllvm -sink-common-insts=false --no-default-config -no-canonical-prefixes -fintegrated-cc1 -fno-crash-diagnostics -Werror"
 
 # origin TARGET-VARIANT FLAGS
 origin() {

@@ -7,41 +7,45 @@ MODULE is the module that rattle hands to clang, as text. HEADER declares the ex
 which the two lines `target ..` are taken. OUT is the module retargeted, each function with the attributes given (optsize).
 
 The code stays as it is: usize has 64 bits, and a place has the size and the offsets that it has on x86-64, where a pointer fills
-the first four of its eight bytes. What changes: the target, two attributes that are x86-64's, names with `::`, which get a dot for it, places
+the first four of its eight bytes. What changes: the target, three attributes that are x86-64's, names with `::`, which get a dot for it, places
 of one pointer, which are made eight bytes long, and the lengths of the exported functions, which become 32 bits wide (`size_t`) and are extended by zeros on entry.
 
 That is right of a module in which nothing depends on the width of a pointer, and of no other. So every line has one of the few forms
-below or the module is refused: no pointer becomes a number or is compared, steps over memory are in bytes, alignments are written out,
-nothing is called outside but LLVM's memmove, memset and trap. And no byte of a pointer is read or written as a number, or copied without
-the rest (class Places)."""
+below or the module is refused: no pointer becomes a number or is compared but with null, steps over memory are in bytes, alignments are written out,
+a record is of numbers that every target lays out alike, nothing is called outside but LLVM's memmove, memset and trap. And no byte of a pointer is read
+or written as a number, or copied or set to zero without the rest (class Places)."""
 import re
 import sys
 from collections import namedtuple
 
 REGISTER = r'%[\w.]+'
 NUMBER = r'i(?:1|8|16|32|64)'
+RECORD = r'{ i(?:8|16|32)(?:, i(?:8|16|32))* }'  # its parts as C has them, on each target
+RESULT = rf'(?:{NUMBER}|{RECORD})'
 VALUE = rf'(?:{REGISTER}|-?\d+|true|false)'
 NAME = r'@(?:"[^"]+"|\w+)'
 LABEL = rf'label {REGISTER}'
 NOTES = r'(?:, !(?:noundef|range) !\d+)*'
 FORMS = {kind: re.compile(form) for kind, form in {
-    'load': rf'({REGISTER}) = load ({NUMBER}|ptr), ptr ({REGISTER}), align \d+{NOTES}',
+    'load': rf'({REGISTER}) = load ({RESULT}|ptr), ptr ({REGISTER}), align \d+{NOTES}',
     'store': rf'store ({NUMBER}|ptr) ({VALUE}), ptr ({REGISTER}), align \d+',
     'place': rf'({REGISTER}) = alloca (?:{NUMBER}|ptr|\[\d+ x i8\]), align \d+',
     'step': rf'({REGISTER}) = getelementptr (?:inbounds )?(?:nuw )?i8, ptr ({REGISTER}), i64 ({VALUE})',
     'move': rf'call void @llvm\.memmove\.p0\.p0\.i64\(ptr ({REGISTER}), ptr ({REGISTER}), i64 ({VALUE}), i1 false\)',
-    'fill': rf'call void @llvm\.memset\.p0\.i64\(ptr ({REGISTER}), i8 {VALUE}, i64 ({VALUE}), i1 false\)',
-    'call': rf'(?:call void|{REGISTER} = call {NUMBER}) ({NAME})\((.*)\)',
+    'fill': rf'call void @llvm\.memset\.p0\.i64\(ptr ({REGISTER}), i8 ({VALUE}), i64 ({VALUE}), i1 false\)',
+    'call': rf'(?:call void|{REGISTER} = call {RESULT}) ({NAME})\((.*)\)',
+    'part': rf'{REGISTER} = extractvalue {RECORD} {REGISTER}, \d+',
+    'null': rf'{REGISTER} = icmp eq ptr ({REGISTER}), null',
     'reckon': rf'{REGISTER} = (?:add|sub|mul|udiv|urem|and|or|xor|shl|lshr)(?: nuw| nsw| exact)* {NUMBER} {VALUE}, {VALUE}',
     'compare': rf'{REGISTER} = icmp (?:eq|ne|ult|ule|ugt|uge) {NUMBER} {VALUE}, {VALUE}',
     'widen': rf'{REGISTER} = (?:zext|trunc)(?: nuw| nsw| nneg)* {NUMBER} {VALUE} to {NUMBER}',
     'go': rf'br (?:{LABEL}|i1 {VALUE}, {LABEL}, {LABEL})',
     'switch': rf'switch {NUMBER} {VALUE}, {LABEL} \[|{NUMBER} (?:-?\d+|true|false), {LABEL}|\]',
-    'return': rf'ret (?:void|{NUMBER} {VALUE})',
+    'return': rf'ret (?:void|{NUMBER} {VALUE}|{RECORD} {REGISTER})',
     'trap': r'call void @llvm\.trap\(\)|unreachable',
     'label': r'[\w.]+:',
 }.items()}
-DEFINE = re.compile(rf'define (internal )?(?:noundef )?(zeroext )?(void|{NUMBER}) ({NAME})\((.*)\) #0 {{')
+DEFINE = re.compile(rf'define (internal )?(?:noundef )?(zeroext )?(void|{RESULT}) ({NAME})\((.*)\) #0 {{')
 PARAMETER = re.compile(rf'(ptr|{NUMBER}) noundef (?:zeroext )?({REGISTER})')
 ARGUMENT = re.compile(rf'(ptr|{NUMBER}) ({VALUE})')
 X86_64 = {
@@ -57,7 +61,7 @@ OUTSIDE_LINES = [re.compile(form) for form in (
     r'!0 = !{!"rattle logic=[0-9a-f]+"}',
     r'!\d+ = !{(?:i\d+ -?\d+, i\d+ -?\d+)?}',
 )]
-OWN_ATTRIBUTES = 'attributes #0 = { nounwind "probe-stack"="inline-asm" "target-cpu"="x86-64" }'
+OWN_ATTRIBUTES = 'attributes #0 = { nounwind "probe-stack"="inline-asm" "stack-probe-size"="3072" "target-cpu"="x86-64-v2" }'
 POINTER = 8  # bytes of a pointer in a place
 BYTES = {'i1': 1, 'i8': 1, 'i16': 2, 'i32': 4, 'i64': 8}
 C_TYPES = {'uint8_t': 'i8', 'uint16_t': 'i16', 'uint32_t': 'i32', 'size_t': 'i64', 'void': 'void'}
@@ -106,6 +110,14 @@ def read_functions(lines):
     return functions
 
 
+def bytes_of(kind):
+    """The bytes of a number, or of a record up to the end of its last part."""
+    end = 0
+    for part in kind.strip('{ }').split(', '):
+        end += -end % BYTES[part] + BYTES[part]
+    return end
+
+
 class Places:
     """Which bytes of which places hold pointers, and that nothing takes these bytes for numbers.
 
@@ -119,6 +131,7 @@ class Places:
         self.pointers = {self.OUTSIDE: set()}  # the offsets of pointers in each place
         self.shared = []                       # (place, offset, place, offset, length or None): the same bytes, or a copy of them
         self.numbers = []                      # (line, place, offset or None, length or None): bytes that are numbers
+        self.zeros = []                        # (line, place, offset, length): bytes that are set to zero, of a pointer all or none
         self.plain = {self.OUTSIDE}            # places that may hold no pointer
         for name, function in functions.items():
             self.follow(name, function)
@@ -149,7 +162,9 @@ class Places:
                 elif kind == 'move':
                     self.share(at[match[1]], at[match[2]], int(match[3]) if match[3].isdigit() else None)
                 elif kind == 'fill':
-                    self.numbers.append((index, *at[match[1]], int(match[2]) if match[2].isdigit() else None))
+                    self.fill(index, *at[match[1]], match[2], match[3])
+                elif kind == 'null':
+                    at[match[1]]
                 elif kind == 'call':
                     self.call(index, match[1], match[2], at)
             except KeyError as register:
@@ -159,9 +174,15 @@ class Places:
         at[register] = (name, register), 0
         self.pointers[name, register] = set()
 
+    def fill(self, index, place, offset, byte, length):
+        if byte == '0' and offset is not None and length.isdigit():
+            self.zeros.append((index, place, offset, int(length)))
+        else:
+            self.numbers.append((index, place, offset, int(length) if length.isdigit() else None))
+
     def touch(self, index, kind, place, offset):
         if kind != 'ptr':
-            self.numbers.append((index, place, offset, BYTES[kind]))
+            self.numbers.append((index, place, offset, bytes_of(kind)))
         elif offset is None:
             raise Refused(f'line {index + 1}: a pointer at an offset that is not known')
         else:
@@ -210,6 +231,10 @@ class Places:
             for pointer in self.pointers[place]:
                 if None in (offset, length) or (offset < pointer + POINTER and pointer < offset + length):
                     raise Refused(f'line {index + 1}: bytes of a pointer are taken for numbers')
+        for index, place, offset, length in self.zeros:
+            for pointer in self.pointers[place]:
+                if offset < pointer + POINTER and pointer < offset + length and not (offset <= pointer and pointer + POINTER <= offset + length):
+                    raise Refused(f'line {index + 1}: a part of a pointer is set to zero')
 
 
 def read_header(text):
@@ -272,6 +297,8 @@ def read_target(text):
     lines = [line for line in text.splitlines() if line.startswith('target ')]
     if len(lines) != 2 or not re.fullmatch(r'target datalayout = "e-(?:[^"]*-)?p:32:32-[^"]*"', lines[0]):
         raise Refused('the new target is not little-endian with 32-bit pointers')
+    if re.search(r'-i(?:8|16|32):', lines[0]):
+        raise Refused('the new target aligns numbers of up to 32 bits in a way of its own')
     return lines
 
 

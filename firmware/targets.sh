@@ -1,6 +1,7 @@
 # What archives are made of and for, for the scripts that source this file, and what the kit's clang is told.
 
-# The crates of C calls: each is a member of the archive by itself, so that a host links what it calls.
+# The crates of C calls: each is a member of the archive by itself, so that a host links what it calls. The static library NAME_c exports the calls
+# of the crate NAME.
 crates="cxpi cxpi_batch cxpi_why"
 
 controllers="cortex-m0plus cortex-m3 cortex-m4 cortex-m4f rv32imac"
@@ -36,5 +37,5 @@ optimisation() {
 }
 
 # The kit that rt is of, and its compiler.
-kit=${RATTLE_HOME:-$(dirname "$(dirname "$(rt doc)")")}
-toolchain=$kit/on/$(uname -m)/toolchain
+kit=$(dirname "$(rt doc)")
+toolchain=$kit/toolchain

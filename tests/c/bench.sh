@@ -7,11 +7,9 @@ out=target/c
 independent=tests/independent
 flags="-std=c11 -Wall -Wextra -Werror -pedantic -Iinclude -I$independent"
 mkdir -p $out
-rt staticlib cxpi > $out/log 2>&1 || { cat $out/log; exit 1; }
-cp target/staticlib/libcxpi.a $out/plain.a
+# Its archive's members are those of a plain `rt lib`: module.sh compares them.
 sh firmware/module.sh
-cmp target/staticlib/libcxpi.a $out/plain.a
-rt check drill > $out/log 2>&1 || { cat $out/log; exit 1; }
+sh tools/prove drill
 
 # The benchmark's programs over C by a compiler, its check by products and by the sheet: bench_by COMPILER OPTIMISATION.
 bench_by() {

@@ -4,7 +4,11 @@
 # gcc, and by clang where it is present. The other is of the documents and their links, held to the repository, of the stored cases, by
 # mutations of the code, and of the programs: how they are called, the drill, the explanation and the replay of recorded moves against
 # independent ones, the drill's picture. A line for each test; target/tests has what it said.
+#
+# Usage: run.sh [BEGAN]. What has changed is proved and built first. But where rt ci passed since the file BEGAN was written, what it built is taken.
 set -eu
+began=${1:-}
+case $began in "" | /*) ;; *) began=$PWD/$began ;; esac
 cd "$(dirname "$0")/../.."
 . tests/gate/try.sh
 out=target/c
@@ -49,7 +53,7 @@ compare_long() {
 
 test_calls() {
     # The crates of C calls are proved with their archive; their modules are kept for the controllers.
-    try archive sh firmware/module.sh
+    try archive sh firmware/module.sh ${began:+"$began"}
     try symbols sh tests/c/symbols.sh $archive include/cxpi.h
     echo 'int main(void) { return 0; }' > $out/probe.c
     for compiler in gcc clang; do
@@ -128,6 +132,19 @@ test_documents_and_programs() {
     test_programs
 }
 
-# Proves nothing again after rt ci.
-try programs rt check drill why replay test_states show
+# The programs, in target/bin. rt ci leaves them in the folders of their crates.
+programs() {
+    mkdir -p target/bin
+    for program in drill why replay test_states show; do
+        if [ -n "$began" ]; then
+            find crates/$program/out/$program -newer "$began" | grep -q . || { echo "rt ci did not build $program"; exit 1; }
+            cp crates/$program/out/$program target/bin
+        else
+            sh tools/prove $program
+        fi
+    done
+    echo "five programs, target/bin"
+}
+
+try programs programs
 both test_calls test_documents_and_programs

@@ -32,7 +32,8 @@ uint32_t total_version(void);
 #endif
 '''
 
-# A byte slice is a pointer and a length, in a place of 16 bytes that the function called copies.
+# A byte slice is a pointer and a length, in a place of 16 bytes that is set to zero first and that the function called copies. An exported function gives
+# its slice another address where it is null.
 MODULE = '''
 source_filename = "rattle"
 target datalayout = "e-m:e-p270:32:32-p271:32:32-p272:64:64-i64:64-i128:128-f80:128-n8:16:32:64-S128"
@@ -89,14 +90,29 @@ trap.5:                                           ; preds = %then.2
   unreachable
 }
 
+define internal noundef { i8, i16 } @"total::limits"() #0 {
+start:
+  %r0 = alloca [4 x i8], align 2
+  call void @llvm.memset.p0.i64(ptr %r0, i8 0, i64 4, i1 false)
+  %r1 = load { i8, i16 }, ptr %r0, align 2
+  ret { i8, i16 } %r1
+}
+
 define noundef i32 @total_of(ptr noundef %a0, i64 noundef %a1, ptr noundef %a2, i8 noundef %a3) #0 {
 start:
   %r0 = alloca [16 x i8], align 8
-  store ptr %a0, ptr %r0, align 8
+  call void @llvm.memset.p0.i64(ptr %r0, i8 0, i64 16, i1 false)
+  %n0 = icmp eq ptr %a0, null
+  %n1 = zext i1 %n0 to i64
+  %n2 = mul i64 %n1, 4096
+  %n3 = getelementptr i8, ptr %a0, i64 %n2
+  store ptr %n3, ptr %r0, align 8
   %r1 = getelementptr i8, ptr %r0, i64 8
   store i64 %a1, ptr %r1, align 8
   %r2 = alloca [24 x i8], align 1
   call void @llvm.memset.p0.i64(ptr %r2, i8 0, i64 24, i1 false)
+  %r3 = call { i8, i16 } @"total::limits"()
+  %r4 = extractvalue { i8, i16 } %r3, 0
   call void @"total::add"(ptr %r0, ptr %a2, i8 %a3)
   ret i32 0
 }
@@ -110,7 +126,7 @@ declare void @llvm.memmove.p0.p0.i64(ptr writeonly captures(none), ptr readonly 
 declare void @llvm.memset.p0.i64(ptr writeonly captures(none), i8, i64, i1 immarg) #2
 declare void @llvm.trap() #3
 
-attributes #0 = { nounwind "probe-stack"="inline-asm" "target-cpu"="x86-64" }
+attributes #0 = { nounwind "probe-stack"="inline-asm" "stack-probe-size"="3072" "target-cpu"="x86-64-v2" }
 attributes #1 = { nocallback nofree nounwind willreturn memory(argmem: readwrite) }
 attributes #2 = { nocallback nofree nounwind willreturn memory(argmem: write) }
 attributes #3 = { cold noreturn nounwind memory(inaccessiblemem: write) }
@@ -136,9 +152,11 @@ GONE = [
     'define internal void @"total::add"(ptr noundef %a0, ptr noundef %a1, i8 noundef %a2) #0 {',
     '  %r1 = alloca ptr, align 8',
     '  %r10 = call i1 @"total::is_below"(i8 %r9, i8 %a2, i1 true)',
+    'define internal noundef { i8, i16 } @"total::limits"() #0 {',
     'define noundef i32 @total_of(ptr noundef %a0, i64 noundef %a1, ptr noundef %a2, i8 noundef %a3) #0 {',
+    '  %r3 = call { i8, i16 } @"total::limits"()',
     '  call void @"total::add"(ptr %r0, ptr %a2, i8 %a3)',
-    'attributes #0 = { nounwind "probe-stack"="inline-asm" "target-cpu"="x86-64" }',
+    'attributes #0 = { nounwind "probe-stack"="inline-asm" "stack-probe-size"="3072" "target-cpu"="x86-64-v2" }',
 ]
 COME = [
     'target datalayout = "e-m:e-p:32:32-Fi8-i64:64-v128:64:128-a:0:32-n32-S64"',
@@ -147,13 +165,16 @@ COME = [
     'define internal void @total.add(ptr noundef %a0, ptr noundef %a1, i8 noundef %a2) #0 {',
     '  %r1 = alloca [8 x i8], align 8',
     '  %r10 = call i1 @total.is_below(i8 %r9, i8 %a2, i1 true)',
+    'define internal noundef { i8, i16 } @total.limits() #0 {',
     'define noundef i32 @total_of(ptr noundef %a0, i32 noundef %a1.length, ptr noundef %a2, i8 noundef %a3) #0 {',
     '  %a1 = zext i32 %a1.length to i64',
+    '  %r3 = call { i8, i16 } @total.limits()',
     '  call void @total.add(ptr %r0, ptr %a2, i8 %a3)',
     'attributes #0 = { optsize nounwind }',
 ]
 
-SLICE = '  store ptr %a0, ptr %r0, align 8\n'
+SLICE = '  store ptr %n3, ptr %r0, align 8\n'
+ZERO = 'ptr %r0, i8 0, i64 16, i1 false'
 FORM, NUMBERS, PART, UNKNOWN, REACHED = ': ', 'taken for numbers', 'a part of a pointer', 'is no pointer that is known', 'not followed'
 
 # Edits of the module that must be refused: what is wrong, a text that occurs once, what replaces it, and a part of the reason.
@@ -161,12 +182,17 @@ MODULE_EDITS = [
     ('a pointer becomes a number', SLICE, SLICE + '  %x = ptrtoint ptr %a0 to i64\n', FORM + '%x = ptrtoint'),
     ('a number becomes a pointer', SLICE, SLICE + '  %x = inttoptr i64 %a1 to ptr\n', FORM + '%x = inttoptr'),
     ('pointers are compared', SLICE, SLICE + '  %x = icmp eq ptr %a0, %a2\n', FORM + '%x = icmp'),
+    ('their order is asked for', SLICE, SLICE + '  %x = icmp ult ptr %a0, null\n', FORM + '%x = icmp'),
+    ('a number is compared with null', SLICE, SLICE + '  %x = icmp eq ptr %a1, null\n', UNKNOWN),
+    ('a record of numbers that targets lay out each in its own way', '%r1 = load { i8, i16 }', '%r1 = load { i8, i64 }', FORM + '%r1 = load'),
+    ('a record with a pointer', '%r1 = load { i8, i16 }', '%r1 = load { i8, ptr }', FORM + '%r1 = load'),
+    ('a part of a record with a pointer', 'extractvalue { i8, i16 } %r3, 0', 'extractvalue { ptr, i16 } %r3, 0', FORM + '%r4 = extractvalue'),
     ('a pointer is chosen', SLICE, SLICE + '  %x = select i1 true, ptr %a0, ptr %a2\n', FORM + '%x = select'),
     ('a step over pointers', '%r1 = getelementptr i8, ptr %r0, i64 8', '%r1 = getelementptr ptr, ptr %r0, i64 1', FORM + '%r1 = getelementptr'),
     ('a step of 32 bits', '%r1 = getelementptr i8, ptr %r0, i64 8', '%r1 = getelementptr i8, ptr %r0, i32 8', FORM + '%r1 = getelementptr'),
     ('a place of a type of its own', '%r2 = alloca [24 x i8]', '%r2 = alloca { ptr, i64 }', FORM + '%r2 = alloca'),
     ('a place of a length that is not known', '%r2 = alloca [24 x i8]', '%r2 = alloca i8, i64 %a1', FORM + '%r2 = alloca'),
-    ('an alignment that the target chooses', SLICE, '  store ptr %a0, ptr %r0\n', FORM + 'store ptr'),
+    ('an alignment that the target chooses', SLICE, '  store ptr %n3, ptr %r0\n', FORM + 'store ptr'),
     ('a number that is none', 'store i64 %a1, ptr %r1', 'store i64 poison, ptr %r1', FORM + 'store i64 poison'),
     ('a float', SLICE, SLICE + '  %x = fadd float 1.0, 2.0\n', FORM + '%x = fadd'),
     ('assembly', SLICE, SLICE + '  call void asm sideeffect "nop", ""()\n', FORM + 'call void asm'),
@@ -183,7 +209,7 @@ MODULE_EDITS = [
     ('a constant', 'source_filename = "rattle"', 'source_filename = "rattle"\n@g = constant [2 x ptr] zeroinitializer', FORM + '@g'),
     ('a type', 'source_filename = "rattle"', 'source_filename = "rattle"\n%t = type { ptr }', FORM + '%t'),
     ('a declared function', 'declare void @llvm.trap() #3', 'declare void @llvm.trap() #3\ndeclare void @puts(ptr) #3', FORM + 'declare'),
-    ('another attribute of functions', '"target-cpu"="x86-64" }', '"target-cpu"="x86-64" "frame-pointer"="all" }', FORM + 'attributes'),
+    ('another attribute of functions', '"target-cpu"="x86-64-v2" }', '"target-cpu"="x86-64-v2" "frame-pointer"="all" }', FORM + 'attributes'),
     ('a flag of the module', '!1 = !{}', '!1 = !{}\n!llvm.module.flags = !{!2}', FORM + '!llvm.module.flags'),
     ('another source', 'source_filename = "rattle"', 'source_filename = "other"', FORM + 'source_filename'),
     ('another target', 'x86_64-unknown-linux-gnu', 'aarch64-unknown-linux-gnu', FORM + 'target triple'),
@@ -195,7 +221,16 @@ MODULE_EDITS = [
     ('a number is written over its end', SLICE, SLICE + '  %x = getelementptr i8, ptr %r0, i64 7\n  store i16 0, ptr %x, align 1\n', NUMBERS),
     ('a byte of its place is read, which one is not known', SLICE, SLICE
      + '  %x = getelementptr i8, ptr %r0, i64 %a1\n  %y = load i8, ptr %x, align 1\n', NUMBERS),
-    ('it is filled with zeros', SLICE, SLICE + '  call void @llvm.memset.p0.i64(ptr %r0, i8 0, i64 16, i1 false)\n', NUMBERS),
+    ('it is filled with a byte', ZERO, 'ptr %r0, i8 1, i64 16, i1 false', NUMBERS),
+    ('it is filled with a byte that is not known', ZERO, 'ptr %r0, i8 %a3, i64 16, i1 false', NUMBERS),
+    ('its first half is set to zero', ZERO, 'ptr %r0, i8 0, i64 4, i1 false', 'a part of a pointer is set to zero'),
+    ('its end is set to zero', SLICE, SLICE + '  %x = getelementptr i8, ptr %r0, i64 6\n'
+     '  call void @llvm.memset.p0.i64(ptr %x, i8 0, i64 10, i1 false)\n', 'a part of a pointer is set to zero'),
+    ('zeros from where is not known', SLICE, SLICE + '  %x = getelementptr i8, ptr %r0, i64 %a1\n'
+     '  call void @llvm.memset.p0.i64(ptr %x, i8 0, i64 16, i1 false)\n', NUMBERS),
+    ('it is read as a record', SLICE, SLICE + '  %x = load { i8, i16 }, ptr %r0, align 2\n', NUMBERS),
+    ('a record reaches into it', SLICE, SLICE + '  %x = alloca [16 x i8], align 8\n  %y = getelementptr i8, ptr %x, i64 3\n'
+     '  store ptr %a2, ptr %y, align 1\n  %z = load { i8, i16 }, ptr %x, align 2\n', NUMBERS),
     ('its place is filled by a length that is not known', SLICE, SLICE
      + '  call void @llvm.memset.p0.i64(ptr %r0, i8 0, i64 %a1, i1 false)\n', NUMBERS),
     ('it is read as a number where its place was copied to', '  %r1 = alloca ptr, align 8\n', '  %x = load i8, ptr %r0, align 1\n'
@@ -239,6 +274,7 @@ WIDE = (('ptr noundef %a2, i8 noundef %a3', 'i64 noundef %a2, i8 noundef %a3'), 
 TARGET_EDITS = [
     ('pointers of 64 bits', 'p:32:32', 'p:64:64', 'not little-endian with 32-bit pointers'),
     ('big-endian', '"e-m:e', '"E-m:e', 'not little-endian with 32-bit pointers'),
+    ('numbers of 16 bits aligned otherwise', '-i64:64', '-i16:8-i64:64', 'in a way of its own'),
     ('no layout', 'target datalayout', 'target layout', 'not little-endian with 32-bit pointers'),
 ]
 

@@ -4,8 +4,7 @@ ghost use Rattle.cxpi.specs.ConfigurationCalls.{configure_reply, configure_leave
 
 use machine_node_configuration::{configure, identity_of};
 
-#[unsafe(no_mangle)]
-pub extern "C" fn cxpi_node_configure(
+pub fn cxpi_node_configure(
     identity: &[u8],
     address: &mut u8,
     request: &[u8],

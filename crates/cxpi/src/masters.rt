@@ -15,8 +15,7 @@ use machine_master::{Command, Event, Reply};
 use packed_master::{event_of, master_of, put_master, put_power_on, put_reply, row_for};
 use packed_master_steps::{Outcome, step_in_place};
 
-#[unsafe(no_mangle)]
-pub extern "C" fn cxpi_master_power_on(plan: &[u8], state: &mut [u8]) -> u32
+pub fn cxpi_master_power_on(plan: &[u8], state: &mut [u8]) -> u32
     ensures { (result ≡ start_refusal master_length plan.now (length state.old)) × (state.new ≡ master_on plan.now state.old) }
 {
     let refusal = start_refusal(packed_master::LENGTH, plan, state.len());
@@ -87,13 +86,7 @@ fn step_under(plan: &[u8], state: &mut [u8], event: Event, reply: &mut [u8]) -> 
 }
 
 // The plan is judged once, in its bytes.
-#[unsafe(no_mangle)]
-pub extern "C" fn cxpi_master_step(
-    plan: &[u8],
-    state: &mut [u8],
-    event: &[u8],
-    reply: &mut [u8],
-) -> u32
+pub fn cxpi_master_step(plan: &[u8], state: &mut [u8], event: &[u8], reply: &mut [u8]) -> u32
     ensures { (result ≡ (master_reply plan.now state.old event.now (length reply.old)).refusal)
         × (state.new ≡ master_leaves (master_reply plan.now state.old event.now (length reply.old)) state.old)
         × (reply.new ≡ master_replies (master_reply plan.now state.old event.now (length reply.old)) reply.old) }

@@ -12,8 +12,7 @@ use machine_node::{Command, Event, Node, Reply};
 use packed_node::{event_of, node_of, put_node, put_power_on, put_reply};
 use set_plan::Lookup;
 
-#[unsafe(no_mangle)]
-pub extern "C" fn cxpi_node_power_on(plan: &[u8], state: &mut [u8]) -> u32
+pub fn cxpi_node_power_on(plan: &[u8], state: &mut [u8]) -> u32
     ensures { (result ≡ start_refusal node_length plan.now (length state.old)) × (state.new ≡ node_on plan.now state.old) }
 {
     let refusal = start_refusal(packed_node::LENGTH, plan, state.len());
@@ -76,14 +75,7 @@ fn reply_to(plan: &[u8], me: u8, state: &[u8], event: &[u8], room: usize) -> Rep
     )
 }
 
-#[unsafe(no_mangle)]
-pub extern "C" fn cxpi_node_step(
-    plan: &[u8],
-    me: u8,
-    state: &mut [u8],
-    event: &[u8],
-    reply: &mut [u8],
-) -> u32
+pub fn cxpi_node_step(plan: &[u8], me: u8, state: &mut [u8], event: &[u8], reply: &mut [u8]) -> u32
     ensures { (result ≡ (node_reply plan.now me state.old event.now (length reply.old)).refusal)
         × (state.new ≡ node_leaves (node_reply plan.now me state.old event.now (length reply.old)) state.old)
         × (reply.new ≡ node_replies (node_reply plan.now me state.old event.now (length reply.old)) reply.old) }

@@ -7,16 +7,14 @@ ghost use Rattle.set_writer.specs.Write.{write_result, written};
 use set_reader::read_record;
 use set_writer::write_record;
 
-#[unsafe(no_mangle)]
-pub extern "C" fn cxpi_read(set: &[u8], plan: &mut [u8]) -> u32
+pub fn cxpi_read(set: &[u8], plan: &mut [u8]) -> u32
     ensures { (result ≡ record_refusal set.now (length plan.old))
         × (plan.new ≡ record_written (read_set set.now).plan plan.old) }
 {
     read_record(set, plan) as u32
 }
 
-#[unsafe(no_mangle)]
-pub extern "C" fn cxpi_write(plan: &[u8], set: &mut [u8], size: &mut u16) -> u32
+pub fn cxpi_write(plan: &[u8], set: &mut [u8], size: &mut u16) -> u32
     ensures { (result ≡ (write_result (record_of plan.now) (length set.old)).refusal)
         × (set.new ≡ written (record_of plan.now) set.old)
         × (size.new ≡ (write_result (record_of plan.now) (length set.old)).length) }

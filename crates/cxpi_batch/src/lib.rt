@@ -1,4 +1,4 @@
-// The C firmware host's call for the master's events of a frame slot. An archive of its own: the steps of `cxpi` stay as the compiler makes them.
+// The C firmware host's call for the master's events of a frame slot, which `cxpi_batch_c` exports. An archive of its own: the steps of `cxpi` stay as the compiler makes them.
 #![tactic(auto)]
 
 ghost use Rattle.std.specs.Prelude.{◌≡◌};
@@ -92,8 +92,7 @@ fn reply_of(plan: &[u8], state: &mut [u8], number: u8, event: EventRecord) -> Re
 }
 
 // Each event in order, its reply to its own place. Plan and state are judged once.
-#[unsafe(no_mangle)]
-pub extern "C" fn cxpi_master_batch(
+pub fn cxpi_master_batch(
     plan: &[u8],
     state: &mut [u8],
     events: &[EventRecord],

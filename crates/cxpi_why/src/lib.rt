@@ -1,4 +1,4 @@
-// The C host's call that tells why a master is awake, an archive's member of its own as `cxpi_batch` is.
+// The C host's call that tells why a master is awake, which `cxpi_why_c` exports. An archive's member of its own as `cxpi_batch` is.
 #![tactic(auto)]
 
 ghost use Rattle.std.specs.Prelude.{◌≡◌, length};
@@ -41,8 +41,7 @@ fn put_reason(reply: &mut [u8], reason: Reason)
     put(reply, 0, &numbers[..]);
 }
 
-#[unsafe(no_mangle)]
-pub extern "C" fn cxpi_master_why(plan: &[u8], state: &[u8], reply: &mut [u8]) -> u32
+pub fn cxpi_master_why(plan: &[u8], state: &[u8], reply: &mut [u8]) -> u32
     ensures { (result ≡ (reason_reply plan.now state.now (length reply.old)).refusal)
         × (reply.new ≡ reason_leaves (reason_reply plan.now state.now (length reply.old)).reason reply.old) }
 {
