@@ -105,12 +105,7 @@ pub fn print(rt: &HostRuntime, program: &[u8], before: bool, text: &[u8]) -> boo
 }
 
 // Reads moves once, as many bytes as come.
-pub fn read_some(
-    rt: &HostRuntime,
-    program: &[u8],
-    file: &mut impl Read,
-    buffer: &mut [u8],
-) -> usize
+pub fn read_some(rt: &HostRuntime, program: &[u8], file: &mut impl Read, buffer: &mut [u8]) -> usize
     ensures { Counts result buffer.new }
 {
     match file.read(buffer) {
@@ -120,6 +115,32 @@ pub fn read_some(
             0
         }
     }
+}
+
+// How many bytes stand at the front of a buffer, and why there are no more: it is full, the input ended, or a read failed.
+#[derive(Drop)]
+struct Filled {
+    count: usize,
+    end: io::Result<()>,
+}
+
+fn fill(file: &mut impl Read, buffer: &mut [u8]) -> Filled
+    ensures { Counts result.count buffer.new }
+{
+    let mut count: usize = 0;
+    while count < buffer.len() {
+        match file.read(&mut buffer[count..]) {
+            Ok(0) => break,
+            Ok(more) => count += more,
+            Err(error) => {
+                return Filled {
+                    count,
+                    end: Err(error),
+                };
+            }
+        }
+    }
+    Filled { count, end: Ok(()) }
 }
 
 // Reads until a buffer is full or the input ends.
@@ -132,21 +153,26 @@ pub fn read_full(
 ) -> FileRead
     ensures { Counts result.count buffer.new }
 {
-    let mut count: usize = 0;
-    while count < buffer.len() {
-        match file.read(&mut buffer[count..]) {
-            Ok(0) => break,
-            Ok(more) => count += more,
-            Err(error) => {
-                fail(rt, program, what, error);
-                return FileRead {
-                    whole: false,
-                    count,
-                };
+    let filled = fill(file, buffer);
+    let count = filled.count;
+    match filled.end {
+        Ok(()) => FileRead { whole: true, count },
+        Err(error) => {
+            fail(rt, program, what, error);
+            FileRead {
+                whole: false,
+                count,
             }
         }
     }
-    FileRead { whole: true, count }
+}
+
+// Reads standard input until a buffer is full, or the input ends or fails, of which nothing is said.
+pub fn read_input(rt: &HostRuntime, buffer: &mut [u8]) -> usize
+    ensures { Counts result buffer.new }
+{
+    let filled = fill(&mut rt.stdin(), buffer);
+    filled.count
 }
 
 // Opens a file for reading. A name that is no UTF-8 can't be opened.

@@ -2,9 +2,8 @@
 ghost use Rattle.base_text.specs.Text.{Counts};
 
 use base_text::{append, below};
-use std::fmt;
 use std::fmt::Write;
-use std::io;
+use std::{fmt, io};
 
 // A buffer that a text goes to, as far as there is room, and the index past that text.
 #[derive(Drop)]
