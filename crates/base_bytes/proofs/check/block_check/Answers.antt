@@ -25,7 +25,7 @@ loop-i-preserved c =
     rw e (omega arith)
 
 pub returns : goal.returns
-returns block_check
+unfolding block_check
 returns c =
     let a = c.args in
     let e : 510 - c.loop-i.i ≡ 510 = omega arith in
