@@ -1,0 +1,11 @@
+-- A turn is a step; at the end no event is left.
+use Rattle.machine_batch.proofs.run.Goals as goal
+
+pub loop-i-init : goal.loop-i-init
+loop-i-init c = ?
+
+pub loop-i-preserved : goal.loop-i-preserved
+loop-i-preserved c = ?
+
+pub returns : goal.returns
+returns c = ?

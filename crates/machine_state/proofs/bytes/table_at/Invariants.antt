@@ -1,0 +1,12 @@
+-- The places so far hold their bytes, the others zero, as past the end. Assumes nothing.
+use Prim.Native.Nat.{ℕ, ◌+◌, ◌-◌, ◌≤◌, ◌<◌}
+use mathlib.Core.Path.{◌≡◌}
+use lib.ListN.{length, get_or}
+use Rattle.base_bytes.specs.Bytes.{byte}
+use Rattle.machine_state.proofs.bytes.table_at.Given as goal
+
+abbrev pub invariant-loop-i : goal.invariant-loop-i
+invariant-loop-i l = (l.i ≤ l.within) × (length l.table ≡ 128) × ((k : ℕ) → k < l.i → get_or l.table k 0 ≡ byte l.bytes (l.start + k)) × ((k : ℕ) → l.i ≤ k → k < 128 → get_or l.table k 0 ≡ 0)
+
+abbrev pub decreases-loop-i : goal.decreases-loop-i
+decreases-loop-i l = l.within - l.i

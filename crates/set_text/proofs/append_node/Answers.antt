@@ -1,0 +1,15 @@
+-- One text after the other. Assumes nothing.
+use Prim.Native.Nat.{◌≤◌}
+use lib.ListN.{length}
+use native.Mathlib.Omega.{arith}
+use Rattle.base_text.specs.Text.{largest}
+use Rattle.base_text.proofs.Appends.{appended_then}
+use Rattle.set_text.specs.Show.{node_line}
+use Rattle.set_text.proofs.append_node.Goals as goal
+
+pub returns : goal.returns
+unfolding node_line
+returns c =
+    let s = c in
+    let f : length s.args.buffer.now ≤ largest = omega (arith, s.well-formed.0.0) in
+    appended_then f (appended_then f (appended_then f (appended_then f c.append-a.ensures c.append_decimal-b.ensures) c.append-c.ensures) c.append_hex-d.ensures) c.append_class_and_method.ensures
