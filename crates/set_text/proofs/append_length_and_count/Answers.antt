@@ -12,7 +12,7 @@ pub returns : goal.returns
 unfolding length_and_count_text
 returns c =
     let s = c in
-    let f : length s.args.buffer.now ≤ largest = omega (arith, s.well-formed.0.0) in
+    let f : length s.args.buffer.now ≤ largest = omega (arith, s.well_formed.0.0) in
     appended_then f
     (appended_then f
     (appended_then f

@@ -12,6 +12,6 @@ pub returns : goal.returns
 unfolding plan_text
 returns c =
     let s = c in
-    let f : length s.args.buffer.now ≤ largest = omega (arith, s.well-formed.0.0) in
+    let f : length s.args.buffer.now ≤ largest = omega (arith, s.well_formed.0.0) in
     let line = appended_as (ap profile_line c.sleeps-sleeps.ensures) c.append_profile-b.ensures in
     appended_then f (appended_then f (appended_then f (appended_then f c.append_revision-a.ensures line) c.append_times-c.ensures) c.append_nodes-d.ensures) c.append_rows.ensures

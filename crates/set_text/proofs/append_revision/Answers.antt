@@ -11,5 +11,5 @@ pub returns : goal.returns
 unfolding revision_line
 returns c =
     let s = c in
-    let f : length s.args.buffer.now ≤ largest = omega (arith, s.well-formed.0.0) in
+    let f : length s.args.buffer.now ≤ largest = omega (arith, s.well_formed.0.0) in
     appended_then f (appended_then f c.append-a.ensures c.append_decimal-b.ensures) c.append.ensures

@@ -11,5 +11,5 @@ pub returns : goal.returns
 unfolding wake_up_times_text
 returns c =
     let s = c in
-    let f : length s.args.buffer.now ≤ largest = omega (arith, s.well-formed.0.0) in
+    let f : length s.args.buffer.now ≤ largest = omega (arith, s.well_formed.0.0) in
     appended_then f (appended_then f c.append_time-a.ensures c.append_time-b.ensures) c.append_time.ensures
