@@ -9,7 +9,7 @@ use Rattle.bus.specs.declared.World.{World}
 use Rattle.bus.specs.declared.Moved.{Moved}
 use Rattle.bus.specs.Passed.{nothing}
 
--- "The first starts from power_on_lem"
+-- "The first starts from power-on"
 abbrev pub power_on : Bool → World
 power_on sleeps = record { master = MasterChanges.power_on sleeps; nodes = replicate max_nodes (NodeChanges.power_on sleeps) }
 

@@ -23,7 +23,7 @@ use Rattle.bus_claims.specs.Reasons.{held_by, cause_by}
 abbrev pub given : ℕ → Hold
 given age = record { held = true; age = age }
 
--- of an answer that is whole (w), has the wake bit (k) and gives permission (g); no wake_up since (n), within the window (l), no wake_up within it (y)
+-- of an answer that is whole (w), has the wake bit (k) and gives permission (g); no wake-up since (n), within the window (l), no wake-up within it (y)
 abbrev held_is : Bool → Bool → Bool → Bool → Bool → Bool
 held_is w k g n l = w && not k && g && (n && l)
 
@@ -85,7 +85,7 @@ module _ (window : ℕ) where
       go true false d false l f = rw (l, d)
       go false false d false l f = rw d
 
-  -- no wake_up within the window, a move later
+  -- no wake-up within the window, a move later
   within_later : (e : Passed) (after : List Passed)
       → none is_wake_up (within window (e ∷ after)) ≡ if_else (leb (ticks_in (e ∷ after)) window) (none is_wake_up (e ∷ after)) (none is_wake_up (within window after))
   within_later e after = go (leb (ticks_in (e ∷ after)) window)
@@ -113,7 +113,7 @@ module _ (window : ℕ) where
       ap (number_is (is_whole row a) a.wake a.permission (none is_wake_up (e ∷ after)) (leb (ticks_in (e ∷ after)) window)) (within_later e after)
 
   module _ (e : Passed) (after : List Passed) where
-    -- a move that is no tick and no wake_up
+    -- a move that is no tick and no wake-up
     pub hold_still : (last : Arrival) → e.tick ≡ false → is_wake_up e ≡ false → hold_by last (e ∷ after) ≡ hold_by last after
     hold_still Arrival.Nothing t w = refl
     hold_still (Arrival.Answer row a) t w = rw (w, t)
@@ -136,7 +136,7 @@ module _ (window : ℕ) where
             ap (number_is (is_whole row a) a.wake a.permission n (leb (ticks_in after) window)) (ap (λ (b : Bool). if_else b n y) h ∙ sym (within_all after h))
         go false h = ap (number_is (is_whole row a) a.wake a.permission n (leb (ticks_in after) window)) (ap (λ (b : Bool). if_else b n y) h)
 
-    -- a wake_up
+    -- a wake-up
     pub hold-woken : (last : Arrival) → is_wake_up e ≡ true → hold_by last (e ∷ after) ≡ no_hold
     hold-woken Arrival.Nothing w = refl
     hold-woken (Arrival.Answer row a) w = rw w (go (is_whole row a && not a.wake && a.permission))

@@ -61,7 +61,7 @@ answers :
 unfolding find_row row_among has_reqid first_to any_to not_held all_older all_aged_out all_woken tab
 answers = (refl, refl, refl, refl, refl, refl, refl, refl)
 
--- the window's edge: held at the W-th tick, aged out at the next; a wake_up counts only within it, and no other cause gives way to it
+-- the window's edge: held at the W-th tick, aged out at the next; a wake-up counts only within it, and no other cause gives way to it
 windows :
     (shows (answering ++ ticks 3 lossless) ≡ explained_by Reason.Nothing)
     × (shows (answering ++ ticks 4 lossless) ≡ node0 Cause.Aged)

@@ -91,7 +91,7 @@ open_outside n t m f e = go m.state m.phase e f.phase
     go State.Sleep Phase.Withdrawn e h = no_way h
     go State.Sleep Phase.Closing e h = no_way h
 
--- nothing is held, so each permission is as at power_on_lem
+-- nothing is held, so each permission is as at power-on
 none_there : (n window : ℕ) (m : Master) → holds_right n window m.holds ≡ true → NoneHeld m.holds → (i : ℕ) → i < 16 → hold_at m.holds i ≡ no_hold
 unfolding holds_right
 none_there n window m right none i small = λ j. record { held = none i small j; age = eqb-true (hold_at m.holds i).age 0 (rw (none i small) at (all_at (hold_right_at n window m.holds) 16 right i small)) j }
@@ -105,7 +105,7 @@ node_still window m n moves e i a t w h c v =
       cause = c ∙ v.cause ∙ sym (rw a (Causes.number_still window e (since (is_answer_of i) moves) (last_answer i moves) t w));
     }
 
--- a node at a wake_up
+-- a node at a wake-up
 module _ (m : Master) (i : ℕ) (small : i < 16) where
   dropped_hold : hold_at (drop_all m).holds i ≡ no_hold
   dropped_hold = get_or-replicate 16 i no_hold no_hold small

@@ -170,7 +170,7 @@ module _ (p : Plan) (ok : plan_refusal p ≡ 0) (past : List Passed) where
   pub node_permits_by_past : (node : ℕ) (word : Bool) (m : Master) → MasterByPast p m past → MasterByPast p m (node_permits node word ∷ past)
   node_permits_by_past node word m v = still (node_permits node word) m (neutral_permits node word) v
 
-  -- a wake_up that reached the master, or none
+  -- a wake-up that reached the master, or none
   pub asked_by_past : (wakes : Bool) (m : Master) → MasterByPast p m past → MasterByPast p (if_else wakes (wake_up_step m).master m) (asked wakes ∷ past)
   unfolding Stops
   asked_by_past false m v = still (asked false) m neutral_asked v

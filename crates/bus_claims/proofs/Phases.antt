@@ -27,7 +27,7 @@ abbrev pub phase_shown : List Passed → Phase
 phase_shown past =
     phase_by (some is_sending past) (none is_call_back (since is_sending past)) (none has_result (since is_sending past)) (some is_sent (since is_sending past)) (none is_stop (since is_sending past))
 
--- the phase of a called_back message; one under way is InRun's
+-- the phase of a called-back message; one under way is InRun's
 abbrev pub is_owed : Phase → Bool
 is_owed Phase.Open = false
 is_owed Phase.Sending = false

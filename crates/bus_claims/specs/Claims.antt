@@ -15,7 +15,7 @@ use Rattle.bus_nodes.specs.Nodes.{node_at}
 use Rattle.bus_history.specs.Run.{run}
 use Rattle.bus_history.specs.Terms.{every, none, master_permitted, is_answer_of, is_damaged, is_refusing, truly_given, is_wake_up, is_sending, is_stop, ticks_in, leaves_on, leaves_off, is_ask, reaches}
 
--- the last answer of node i that reached the master: whole, truly given, within the window, and no wake_up since
+-- the last answer of node i that reached the master: whole, truly given, within the window, and no wake-up since
 pub record Given (p : Plan) (i : ℕ) (past : List Passed) : Type 0 where
   pub since : List Passed
   pub row : Row
@@ -30,7 +30,7 @@ pub record Given (p : Plan) (i : ℕ) (past : List Passed) : Type 0 where
   pub window : ticks_in since ≤ p.times.window
   pub unwoken : none is_wake_up since ≡ true
 
--- the last sending: the master and each node permitted, and since then no wake_up, no refusing and no damaged answer
+-- the last sending: the master and each node permitted, and since then no wake-up, no refusing and no damaged answer
 pub record Agreed (p : Plan) (past : List Passed) : Type 0 where
   pub since : List Passed
   pub before : List Passed

@@ -1,4 +1,4 @@
--- W-205: "the reason is what the history from power_on_lem shows", told by what passed in the moves. A past has its latest move first.
+-- W-205: "the reason is what the history from power-on shows", told by what passed in the moves. A past has its latest move first.
 use Rattle.std.specs.Prelude.{ℕ, ◌≡◌, Bool, false, not, ◌&&◌, ◌||◌, List, leb, ltb}
 use Rattle.base_lists.specs.Bounded.{if_else, first_to}
 use Rattle.set_plan.specs.declared.Plan.{Plan}
@@ -30,7 +30,7 @@ held_by window Arrival.Nothing after = false
 held_by window (Arrival.Answer row a) after = is_whole row a && not a.wake && a.permission && (none is_wake_up after && leb (ticks_in after) window)
 
 -- and why it is not: "damaged; with the wake bit, whatever its permission bit (wake); without permission (refused); with permission, and
--- within the window a wake_up reached the master (wake), or the window ran out first (aged)"
+-- within the window a wake-up reached the master (wake), or the window ran out first (aged)"
 abbrev pub cause_by : ℕ → Arrival → List Passed → Cause
 cause_by window Arrival.Nothing after = Cause.New
 cause_by window (Arrival.Answer row a) after =

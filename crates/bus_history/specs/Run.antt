@@ -1,4 +1,4 @@
--- A list of moves from power_on_lem, and what passed in them.
+-- A list of moves from power-on, and what passed in them.
 use Rattle.std.specs.Prelude.{List, [], ◌∷◌}
 use Rattle.set_plan.specs.declared.Plan.{Plan}
 use Rattle.bus.specs.declared.Move.{Move}
@@ -14,7 +14,7 @@ pub record Run : Type 0 where
   pub world : World
   pub past : List Passed
 
--- "The first starts from power_on_lem .. nothing else writes them"
+-- "The first starts from power-on .. nothing else writes them"
 abbrev pub start : Plan → Run
 start p = record { world = power_on (sleeps p); past = [] }
 

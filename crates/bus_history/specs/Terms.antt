@@ -20,7 +20,7 @@ none test past = every (λ e. not (test e)) past
 abbrev pub some : (Passed → Bool) → List Passed → Bool
 some test past = not (none test past)
 
--- the moves since the last of which a test holds, or since power_on_lem
+-- the moves since the last of which a test holds, or since power-on
 abbrev pub since : (Passed → Bool) → List Passed → List Passed
 since test [] = []
 since test (e ∷ past) = if_else (test e) [] (e ∷ since test past)
@@ -123,7 +123,7 @@ says_no PermissionChange.Nobody = false
 says_no (PermissionChange.Master permitted) = not permitted
 says_no (PermissionChange.Node node permitted) = false
 
--- "A call-back is a wake_up, a damaged or refusing answer, or the master's own no"
+-- "A call-back is a wake-up, a damaged or refusing answer, or the master's own no"
 abbrev pub is_call_back : Passed → Bool
 is_call_back e = is_wake_up e || is_damaged e || is_refusing e || says_no e.permission
 

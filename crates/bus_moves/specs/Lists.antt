@@ -1,4 +1,4 @@
--- A move as bytes, and a list of them from power_on_lem.
+-- A move as bytes, and a list of them from power-on.
 use Rattle.std.specs.Prelude.{ℕ, true, List, [], ◌∷◌, eqb}
 use Rattle.base_lists.specs.Bounded.{if_else}
 use Rattle.set_plan.specs.declared.Plan.{Plan}
@@ -29,7 +29,7 @@ abbrev pub steps_from : Plan → Run → List (List ℕ) → Run
 steps_from p r [] = r
 steps_from p r (s ∷ more) = steps_from p (then r (step_of p r.world s)) more
 
--- from power_on_lem
+-- from power-on
 abbrev pub steps : Plan → List (List ℕ) → Run
 steps p l = steps_from p (start p) l
 
@@ -37,7 +37,7 @@ steps p l = steps_from p (start p) l
 abbrev pub ran_to : ℕ → World → Ran
 ran_to refusal world = record { refusal = refusal; world = world }
 
--- under an accepted plan: 15 for bytes that are no list of moves, with the machines at power_on_lem
+-- under an accepted plan: 15 for bytes that are no list of moves, with the machines at power-on
 abbrev pub ran_over : Plan → List ℕ → Ran
 ran_over p s = if_else (list_right s) (ran_to 0 (run p (moves_of s)).world) (ran_to 15 (power_on (sleeps p)))
 

@@ -1,4 +1,4 @@
--- Laws of who sends a wake_up pulse in a move.
+-- Laws of who sends a wake-up pulse in a move.
 use Prim.Native.Nat.{ℕ, zero, suc, ◌+◌, ◌<◌}
 use mathlib.Core.Path.{◌≡◌, refl}
 use mathlib.Core.Bool.{true}

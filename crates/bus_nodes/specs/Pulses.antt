@@ -1,4 +1,4 @@
--- Who sends a wake_up pulse in a move, and messages that reach a set of nodes.
+-- Who sends a wake-up pulse in a move, and messages that reach a set of nodes.
 use Rattle.std.specs.Prelude.{ℕ, zero, suc, Bool, true, false, not, List, eqb, get_or}
 use Rattle.base_lists.specs.Bounded.{if_else}
 use Rattle.machine_node.specs.declared.Node.{Node}

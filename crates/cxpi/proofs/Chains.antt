@@ -120,7 +120,7 @@ module _ (plan : List ℕ) (room : ℕ) where
       ap (λ s. node_calls plan me room s events) (node_call l me n h event)
       ∙ node_chain l me events (node_step (record_of plan) me n (NodeEvents.event_of event)).node (NodePlaces.places_kept n h (record_of plan) me (NodeEvents.event_of event))
 
-  -- so calls from power_on_lem are the machine's run
+  -- so calls from power-on are the machine's run
   pub master_calls_lem : 3 ≤ room → (events : List (List ℕ))
       → master_calls plan room (master_bytes (MasterChanges.power_on (sleeps (record_of plan)))) events
       ≡ master_bytes (master_run (record_of plan) (MasterChanges.power_on (sleeps (record_of plan))) (map MasterEvents.event_of events))

@@ -96,7 +96,7 @@ module _ (plan : Plan) (few : plan.nodecount ≤ no_number) where
   right [] w lines l = last w lines l
   right (c ∷ input) w lines l = step c input (right input) (eqb c 10) refl w lines l
 
-  -- the whole input, from power_on_lem
+  -- the whole input, from power-on
   pub by_lines : (input : List ℕ) → all_printed (started plan) input ≡ drill_text plan input
   unfolding hold_all
   by_lines input = right input (power_on (sleeps plan)) 0 [] ∙ ap (lines_text plan (power_on (sleeps plan)) 0) (behind_none (cut-some 10 input))

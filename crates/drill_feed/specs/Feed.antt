@@ -40,7 +40,7 @@ lines_text plan world lines (l ∷ m ∷ more) =
     line_text plan world (next_line lines) (parse_line l plan.nodecount)
     ++ lines_text plan (world_after plan world (parse_line l plan.nodecount)) (next_line lines) (m ∷ more)
 
--- what the drill prints for an input, from power_on_lem
+-- what the drill prints for an input, from power-on
 abbrev pub drill_text : Plan → List ℕ → List ℕ
 drill_text plan input = lines_text plan (power_on (sleeps plan)) 0 (cut 10 input)
 

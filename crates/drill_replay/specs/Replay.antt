@@ -27,7 +27,7 @@ unfoldable pub record_text : Plan → World → ℕ → List ℕ → List ℕ
 record_text plan world number s =
     if_else (is_move s) (moved_line plan number (record_moved plan world s)) (bad_line number)
 
--- "from power_on_lem", nothing read
+-- "from power-on", nothing read
 abbrev pub started : Plan → Replay
 started plan = record { plan = plan; world = power_on (sleeps plan); count = 0 }
 

@@ -10,7 +10,7 @@ use Rattle.machine_events.specs.declared.EventRecord.{EventRecord}
 abbrev pub no_event : Event
 no_event = Event.Answer (record { reqid = 255; result = 0; length = 0; count = 0; permission = false; wake = false })
 
--- 0 tick, 2 a wake_up pulse, 3 own ask to wake, 5 own ask to send the sleep message
+-- 0 tick, 2 a wake-up pulse, 3 own ask to wake, 5 own ask to send the sleep message
 abbrev pub plain_event : ℕ → Event
 plain_event kind =
     if_else (eqb kind 0) Event.Tick

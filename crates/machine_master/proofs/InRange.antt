@@ -159,7 +159,7 @@ module _ (nodecount window : ℕ) where
       at k l (yes z) (yes q) = rw (get_or-replicate 16 k no_hold no_hold l, z, get_or-set_same causes i c 0 q) r
       at k l (yes z) (no q) = rw (set_out causes i c (omega arith)) (cause_at_lem normal no_holds causes k e l)
 
-  -- a wake_up in Normal
+  -- a wake-up in Normal
   woken_right : (holds : List Hold) (causes : List ℕ) → holds_right nodecount window holds ≡ true → causes_right true nodecount holds causes ≡ true
       → causes_right true nodecount no_holds (all_woken holds causes) ≡ true
   unfolding causes_right all_woken
@@ -228,7 +228,7 @@ module _ (nodecount : ℕ) (t : Times) (a : TimesFit t) where
         causes = rw (all_gone m, on) (woken_right nodecount t.window m.holds m.causes f.holds (rw on at f.causes));
       }
 
-  -- a wake_up that node k's answer carried
+  -- a wake-up that node k's answer carried
   carried_fits : (k c : ℕ) (m : Master) → is_normal m.state ≡ true → k < nodecount → leb c 4 ≡ true → Fits nodecount t m → Fits nodecount t (with_cause c k (drop_all m))
   carried_fits k c m on l few f =
       let d = drop_all_fits m on f in

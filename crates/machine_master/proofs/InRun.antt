@@ -216,7 +216,7 @@ module _ (n : ℕ) (few : n ≤ 16) (t : Times) (Given Given' : ℕ → ℕ → 
       go State.Standby e sleeps q = refused 16 0
       go State.Sleep e sleeps q = refused 16 0
 
-  -- an answer in Normal, of a node's row: others' permissions stay unless it is a wake_up; one that permits is held and calls nothing back
+  -- an answer in Normal, of a node's row: others' permissions stay unless it is a wake-up; one that permits is held and calls nothing back
   pub run-answer : (m : Master) (row : Row) (a : Answer) → is_normal m.state ≡ true → row.publisher < n
       → ((i k : ℕ) → i < n → (i ≡ row.publisher → ⊥) → (is_whole row a && a.wake) ≡ false → Given i k → Given' i k)
       → (is_whole row a ≡ true → a.permission ≡ true → a.wake ≡ false → Given' row.publisher 0 × (Agreed → Agreed'))

@@ -25,7 +25,7 @@ abbrev pub lost_after : ℕ → ℕ → ℕ
 lost_after last count = if_else (nat_lt last no_count) ((count + seq_counts - last - 1) % seq_counts) 0
 
 -- "wake bit 1: let all go, call back. Else permission bit 1: held with age 0. Else let go, call back";
--- "A wake_up is the cause for nodes it let go and for the one whose answer carried it"
+-- "A wake-up is the cause for nodes it let go and for the one whose answer carried it"
 abbrev pub act_on_bits : ℕ → Bool → Bool → Master → Master
 act_on_bits publisher permission wake m =
     if_else wake (call_back (with_cause cause_wake publisher (drop_all m)))

@@ -1,4 +1,4 @@
--- The master's power_on_lem, single changes, causes, calling back, and replies.
+-- The master's power-on, single changes, causes, calling back, and replies.
 use Rattle.std.specs.Prelude.{ℕ, Bool, true, false, List, replicate, slice_index_or, slice_set}
 use Rattle.base_lists.specs.Bounded.{if_else, tab}
 use Rattle.machine_state.specs.declared.State.{State}
@@ -16,7 +16,7 @@ no_hold = record { held = false; age = 0 }
 abbrev pub no_holds : List Hold
 no_holds = replicate max_nodes no_hold
 
--- W-205, why a node's permission is not held: "never answered since Normal, refused, aged out, damaged, or dropped by a wake_up";
+-- W-205, why a node's permission is not held: "never answered since Normal, refused, aged out, damaged, or dropped by a wake-up";
 -- "stored as 0 for never answered, a held node, outside Normal and from N on"
 abbrev pub cause_new : ℕ
 cause_new = 0
@@ -93,7 +93,7 @@ hold node m = with_holds (slice_set m.holds node (record { held = true; age = 0 
 abbrev pub with_cause : ℕ → ℕ → Master → Master
 with_cause cause node m = with_causes (slice_set m.causes node cause) m
 
--- "A wake_up is the cause for nodes it let go", and for no other
+-- "A wake-up is the cause for nodes it let go", and for no other
 abbrev pub woken : Hold → ℕ → ℕ
 woken h cause = if_else h.held cause_wake cause
 
@@ -103,7 +103,7 @@ woken_at holds causes k = woken (slice_index_or holds k no_hold) (slice_index_or
 unfoldable pub all_woken : List Hold → List ℕ → List ℕ
 all_woken holds causes = tab max_nodes (woken_at holds causes)
 
--- a wake_up lets all go
+-- a wake-up lets all go
 abbrev pub drop_all : Master → Master
 drop_all m = let_all_go (with_causes (all_woken m.holds m.causes) m)
 

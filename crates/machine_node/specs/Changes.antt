@@ -1,4 +1,4 @@
--- A node's power_on_lem, the entering of its states, single changes, and replies.
+-- A node's power-on, the entering of its states, single changes, and replies.
 use Rattle.std.specs.Prelude.{ℕ, ◌+◌, ◌-◌, Bool, true, false, ltb, get_or, set, replicate}
 use Rattle.base_lists.specs.Bounded.{if_else}
 use Rattle.machine_state.specs.declared.State.{State}

@@ -15,7 +15,7 @@ use Rattle.machine_reason.specs.declared.Cause.{Cause}
 use Rattle.machine_reason.specs.declared.Reason.{Reason}
 use Rattle.machine_reason.specs.declared.Explained.{Explained}
 
--- "never answered since Normal, refused, aged out, damaged, or dropped by a wake_up", as the master stores it
+-- "never answered since Normal, refused, aged out, damaged, or dropped by a wake-up", as the master stores it
 abbrev pub cause_of : ℕ → Cause
 cause_of stored =
     if_else (eqb stored cause_refused) Cause.Refused
@@ -30,7 +30,7 @@ node_reason nodecount m =
     (Reason.Node (first_to (not_held m.holds) nodecount) (cause_of (get_or m.causes (first_to (not_held m.holds) nodecount) cause_new)))
     Reason.Nothing
 
--- "sleep under way; result of a called_back message owed; own permission missing; or the lowest node not held"; W-206: "the profile itself
+-- "sleep under way; result of a called-back message owed; own permission missing; or the lowest node not held"; W-206: "the profile itself
 -- as the reason, before all others"
 abbrev pub reason_by : Bool → ℕ → Phase → Master → Reason
 reason_by false nodecount phase m = Reason.Profile

@@ -6,6 +6,6 @@ use Rattle.set_plan.specs.declared.Plan.{Plan}
 abbrev pub profile_right : ℕ → Bool
 profile_right profile = leb profile 1
 
--- whether the machines of a plan sleep and wake: under the profile "the ignition cuts the power, so there is no wake_up or sleep"
+-- whether the machines of a plan sleep and wake: under the profile "the ignition cuts the power, so there is no wake-up or sleep"
 abbrev pub sleeps : Plan → Bool
 sleeps p = eqb p.profile 0

@@ -6,7 +6,7 @@ use Rattle.set_plan.specs.declared.Row.{Row}
 use Rattle.set_plan.specs.declared.Times.{Times}
 use Rattle.set_plan.specs.Record.{entry_at, row_at}
 
--- "seven times in ticks of 1 ms ..: W window, D clock stop, S node sleep, E quiet limit, R wake_up recovery, P wake_up space, C clock start"
+-- "seven times in ticks of 1 ms ..: W window, D clock stop, S node sleep, E quiet limit, R wake-up recovery, P wake-up space, C clock start"
 unfoldable pub times_from : List ℕ → ℕ → Times
 times_from s o =
     record { window = number s o; stop = number s (o + 2); sleep = number s (o + 4); quiet = number s (o + 6); recovery = number s (o + 8); space = number s (o + 10); start = number s (o + 12) }

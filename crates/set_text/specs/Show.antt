@@ -16,7 +16,7 @@ time_line label ticks = label ++ ascii ", ticks: " ++ decimal ticks ++ ascii "\n
 
 unfoldable pub wake_up_times_text : Times → List ℕ
 wake_up_times_text t =
-    time_line (ascii "R wake_up recovery") t.recovery ++ time_line (ascii "P wake_up space") t.space ++ time_line (ascii "C clock start") t.start
+    time_line (ascii "R wake-up recovery") t.recovery ++ time_line (ascii "P wake-up space") t.space ++ time_line (ascii "C clock start") t.start
 
 unfoldable pub times_text : Times → List ℕ
 times_text t =
