@@ -1,11 +1,10 @@
 // The drill: moves from standard input under a set.
 #![tactic(auto)]
 
-use libc::STDIN_FILENO;
-
-fn main() {
+fn main(rt: HostRuntime) {
     let mut set = program_files::set_room();
     let file = program_files::read_set(
+        &rt,
         b"drill",
         b"Reads moves from standard input, a line each, and prints a line for each: its number, the master's\n\
 state and phase, the clock, the nodes' states, the refusal or 0. A refused set prints its number.\n\
@@ -15,6 +14,6 @@ X is a node's number or m, the master (not in send), R a ReqId, H ok, bad or los
     );
     if file.whole {
         let count = file.count;
-        program_drill::drill(b"drill", &set[..count], STDIN_FILENO);
+        program_drill::drill(&rt, b"drill", &set[..count], &mut rt.stdin());
     }
 }

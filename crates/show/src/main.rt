@@ -1,9 +1,10 @@
 // Shows a set in words.
 #![tactic(auto)]
 
-fn main() {
+fn main(rt: HostRuntime) {
     let mut set = program_files::set_room();
     let file = program_files::read_set(
+        &rt,
         b"show",
         b"Prints a release set in words, a line each; of a refused set its number and the broken rule.\n",
         &mut set,
@@ -11,8 +12,8 @@ fn main() {
     if file.whole {
         let count = file.count;
         // The words of the longest set take about a sixth of it.
-        let mut out = io::large_buffer();
+        let mut out = program_files::text_room();
         let length = set_text::show(&set[..count], &mut out);
-        program_files::print(b"show", true, &out[..length]);
+        program_files::print(&rt, b"show", true, &out[..length]);
     }
 }

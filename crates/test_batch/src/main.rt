@@ -6,7 +6,6 @@ ghost use Rattle.std.specs.Prelude.{◌≡◌};
 ghost use Rattle.machine_batch.specs.Batch.{batch_of, batch_replies};
 
 use base_bytes::{byte_at, number_at};
-use libc::STDIN_FILENO;
 use machine_events::{EventRecord, ReplyRecord};
 use machine_master::{Hold, Master};
 use set_plan::Plan;
@@ -35,72 +34,72 @@ fn run_six(plan: Plan, master: Master, events: [EventRecord; 6], replies: [Reply
     }
 }
 
-fn print_item(number: u64) {
-    print(b" ");
-    print_number(number);
+fn print_item(rt: &HostRuntime, number: u64) {
+    print(rt, b" ");
+    print_number(rt, number);
 }
 
-fn print_permission(hold: Hold) {
-    print(b" ");
-    print_hold(hold);
+fn print_permission(rt: &HostRuntime, hold: Hold) {
+    print(rt, b" ");
+    print_hold(rt, hold);
 }
 
-fn print_master(master: Master) {
+fn print_master(rt: &HostRuntime, master: Master) {
     let state = master.state;
     let phase = master.phase;
     let holds = master.holds;
     let counts = master.counts;
     let count = counts[16];
-    print(b" ");
-    print_status(state, phase);
+    print(rt, b" ");
+    print_status(rt, state, phase);
     if master.permission {
-        print(b" permits");
+        print(rt, b" permits");
     }
-    print_permission(holds[0]);
-    print_permission(holds[1]);
-    print_item(count as u64);
-    print_item(master.delay as u64);
-    print_item(master.ticks as u64);
+    print_permission(rt, holds[0]);
+    print_permission(rt, holds[1]);
+    print_item(rt, count as u64);
+    print_item(rt, master.delay as u64);
+    print_item(rt, master.ticks as u64);
 }
 
-fn print_reply(reply: ReplyRecord) {
-    print(b",");
-    print_item(reply.refusal as u64);
-    print_item(reply.node as u64);
-    print_item(reply.command as u64);
-    print_item(reply.lost as u64);
+fn print_reply(rt: &HostRuntime, reply: ReplyRecord) {
+    print(rt, b",");
+    print_item(rt, reply.refusal as u64);
+    print_item(rt, reply.node as u64);
+    print_item(rt, reply.command as u64);
+    print_item(rt, reply.lost as u64);
 }
 
-fn print_ran(ran: Ran) {
+fn print_ran(rt: &HostRuntime, ran: Ran) {
     let master = ran.master;
     let replies = ran.replies;
-    print_number(ran.refusal as u64);
-    print_master(master);
-    print_reply(replies[0]);
-    print_reply(replies[1]);
-    print_reply(replies[2]);
-    print_reply(replies[3]);
-    print_reply(replies[4]);
-    print_reply(replies[5]);
-    print_reply(replies[6]);
-    print(b"\n");
+    print_number(rt, ran.refusal as u64);
+    print_master(rt, master);
+    print_reply(rt, replies[0]);
+    print_reply(rt, replies[1]);
+    print_reply(rt, replies[2]);
+    print_reply(rt, replies[3]);
+    print_reply(rt, replies[4]);
+    print_reply(rt, replies[5]);
+    print_reply(rt, replies[6]);
+    print(rt, b"\n");
 }
 
 // The plan of the set in a file that a digit names.
-fn set_of(number: u8) -> Plan {
+fn set_of(rt: &HostRuntime, number: u8) -> Plan {
     let name = [48 + number % 10, b'.', b's', b'e', b't'];
-    program_files::plan_in(b"test_batch", &name)
+    program_files::plan_in(rt, b"test_batch", &name)
 }
 
 // No set can hold plan 1: it is plan 0 with revision 0.
-fn plan_of(number: u8) -> Plan {
+fn plan_of(rt: &HostRuntime, number: u8) -> Plan {
     if number == 1 {
         return Plan {
             revision: 0,
-            ..set_of(0)
+            ..set_of(rt, 0)
         };
     }
-    set_of(number)
+    set_of(rt, number)
 }
 
 // The event record at an offset; numbers of two bytes are big-endian.
@@ -144,25 +143,25 @@ fn start_of(start: u8, sleeps: bool, left: Master) -> Master {
     }
 }
 
-fn run_list(list: &[u8], left: Master) -> Master {
+fn run_list(rt: &HostRuntime, list: &[u8], left: Master) -> Master {
     let untouched = ReplyRecord {
         refusal: 9,
         node: 9,
         command: 9,
         lost: 9,
     };
-    let plan = plan_of(byte_at(list, 0));
+    let plan = plan_of(rt, byte_at(list, 0));
     let start = start_of(byte_at(list, 1), plan.sleeps(), left);
     let ran = run_six(plan, start, events_of(list), [untouched; 7]);
-    print_ran(ran);
+    print_ran(rt, ran);
     ran.master
 }
 
-fn run_lists(text: &[u8]) {
+fn run_lists(rt: &HostRuntime, text: &[u8]) {
     let mut left = Master::power_on(true);
     let mut at: usize = 0;
     while at < text.len() {
-        left = run_list(&text[at..], left);
+        left = run_list(rt, &text[at..], left);
         if text.len() - at < LIST_LENGTH {
             return;
         }
@@ -170,8 +169,8 @@ fn run_lists(text: &[u8]) {
     }
 }
 
-fn main() {
-    let mut input = io::large_buffer();
-    let count = io::read_full(STDIN_FILENO, &mut input);
-    run_lists(&input[..count]);
+fn main(rt: HostRuntime) {
+    let mut input = program_files::text_room();
+    let count = program_files::read_input(&rt, &mut input);
+    run_lists(&rt, &input[..count]);
 }

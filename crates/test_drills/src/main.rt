@@ -4,35 +4,33 @@
 
 use test_output::print;
 
-fn run(set_argument: usize, argument: usize) {
-    let mut set_name = io::buffer();
-    let set_length = os::arg(set_argument, &mut set_name);
-    let mut name = io::buffer();
-    let length = os::arg(argument, &mut name);
-    print(&set_name[..set_length]);
-    print(b" ");
-    print(&name[..length]);
-    print(b"\n");
+fn run(rt: &HostRuntime, set_argument: usize, argument: usize) {
+    let mut set_name = program_files::line_room();
+    let set_length = program_files::argument(rt, set_argument, &mut set_name);
+    let mut name = program_files::line_room();
+    let length = program_files::argument(rt, argument, &mut name);
+    print(rt, &set_name[..set_length]);
+    print(rt, b" ");
+    print(rt, &name[..length]);
+    print(rt, b"\n");
     let mut set = program_files::set_room();
-    let read = program_files::read_file(b"test_drills", &set_name[..set_length], &mut set);
+    let read = program_files::read_file(rt, b"test_drills", &set_name[..set_length], &mut set);
     let count = read.count;
-    let file = os::open_read(&name[..length]);
-    if file < 0 {
-        print(b"no script\n");
+    let Ok(mut file) = program_files::open(rt, &name[..length]) else {
+        print(rt, b"no script\n");
         return;
-    }
-    program_drill::drill(b"test_drills", &set[..count], file);
-    libc::close(file);
+    };
+    program_drill::drill(rt, b"test_drills", &set[..count], &mut file);
 }
 
-fn main() {
-    let count = os::arg_count();
+fn main(rt: HostRuntime) {
+    let count = program_files::argument_count(&rt);
     let mut i: usize = 1;
     while i < count {
         if count - i < 2 {
             return;
         }
-        run(i, i + 1);
+        run(&rt, i, i + 1);
         i += 2;
     }
 }

@@ -2,7 +2,6 @@
 // shows. It prints the state, the command and the refusal that the step gives. tests/machines/make.py writes the cases.
 #![tactic(auto)]
 
-use libc::STDIN_FILENO;
 use set_plan::Plan;
 use test_output::print;
 
@@ -75,9 +74,9 @@ fn wide(x: u64) -> u32 {
 }
 
 // The plan of the set in a file that a digit names.
-fn set_of(number: u64) -> Plan {
+fn set_of(rt: &HostRuntime, number: u64) -> Plan {
     let name = [48 + (number % 10) as u8, b'.', b's', b'e', b't'];
-    program_files::plan_in(b"test_machines", &name)
+    program_files::plan_in(rt, b"test_machines", &name)
 }
 
 fn with_kind_4(mut plan: Plan) -> Plan {
@@ -88,42 +87,42 @@ fn with_kind_4(mut plan: Plan) -> Plan {
 }
 
 // No set can hold plans 2, 6 and 8: each is plan 0 with one field wrong.
-fn plan_of(number: u64) -> Plan {
+fn plan_of(rt: &HostRuntime, number: u64) -> Plan {
     match number {
         2 => Plan {
             revision: 0,
-            ..set_of(0)
+            ..set_of(rt, 0)
         },
         6 => Plan {
             profile: 2,
-            ..set_of(0)
+            ..set_of(rt, 0)
         },
-        8 => with_kind_4(set_of(0)),
-        _ => set_of(number),
+        8 => with_kind_4(set_of(rt, 0)),
+        _ => set_of(rt, number),
     }
 }
 
-fn run_case(text: &[u8], start: usize) -> usize {
+fn run_case(rt: &HostRuntime, text: &[u8], start: usize) -> usize {
     let case = case_at(text, start);
     let shows = case.next;
     let end = line_end(text, shows);
     let values = case.values;
     if values[0] == 0 {
-        masters::run(values);
+        masters::run(rt, values);
     } else {
-        nodes::run(values);
+        nodes::run(rt, values);
     }
     if shows <= end && end <= text.len() {
-        print(&text[shows..end]);
+        print(rt, &text[shows..end]);
     }
-    print(b"\n");
+    print(rt, b"\n");
     end
 }
 
-fn run(text: &[u8]) {
+fn run(rt: &HostRuntime, text: &[u8]) {
     let mut at: usize = 0;
     while at < text.len() {
-        let end = run_case(text, at);
+        let end = run_case(rt, text, at);
         if end <= at {
             return;
         }
@@ -134,8 +133,8 @@ fn run(text: &[u8]) {
     }
 }
 
-fn main() {
-    let mut input = io::large_buffer();
-    let count = io::read_full(STDIN_FILENO, &mut input);
-    run(&input[..count]);
+fn main(rt: HostRuntime) {
+    let mut input = program_files::text_room();
+    let count = program_files::read_input(&rt, &mut input);
+    run(&rt, &input[..count]);
 }

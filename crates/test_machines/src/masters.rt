@@ -74,54 +74,54 @@ fn event_of(v: [u64; 22]) -> Event {
     }
 }
 
-fn print_command(command: Command) {
+fn print_command(rt: &HostRuntime, command: Command) {
     match command {
-        Command::Nothing => print(b"nothing "),
-        Command::ClockOn => print(b"clock-on "),
-        Command::ClockOff => print(b"clock-off "),
-        Command::SleepMessage => print(b"sleep-message "),
+        Command::Nothing => print(rt, b"nothing "),
+        Command::ClockOn => print(rt, b"clock-on "),
+        Command::ClockOff => print(rt, b"clock-off "),
+        Command::SleepMessage => print(rt, b"sleep-message "),
     }
 }
 
-fn print_cause(cause: u8) {
+fn print_cause(rt: &HostRuntime, cause: u8) {
     match cause {
         Master::NEW => {}
-        Master::REFUSED => print(b"refused "),
-        Master::AGED => print(b"aged "),
-        Master::DAMAGED => print(b"damaged "),
-        Master::WAKE => print(b"wake "),
-        _ => print_item(cause as u64),
+        Master::REFUSED => print(rt, b"refused "),
+        Master::AGED => print(rt, b"aged "),
+        Master::DAMAGED => print(rt, b"damaged "),
+        Master::WAKE => print(rt, b"wake "),
+        _ => print_item(rt, cause as u64),
     }
 }
 
-fn print_master(m: Master, plan: u64) {
+fn print_master(rt: &HostRuntime, m: Master, plan: u64) {
     let state = m.state;
     let phase = m.phase;
     let holds = m.holds;
     let causes = m.causes;
     let counts = m.counts;
     let node = second(plan);
-    print_status(state, phase);
-    print(b" ");
-    print_flag(m.permission, b"permits");
-    print_hold(holds[0]);
-    print(b" ");
-    print_cause(causes[0]);
-    print_hold(holds[node]);
-    print(b" ");
-    print_cause(causes[node]);
-    print_counts(counts);
-    print_item(m.delay as u64);
-    print_item(m.ticks as u64);
+    print_status(rt, state, phase);
+    print(rt, b" ");
+    print_flag(rt, m.permission, b"permits");
+    print_hold(rt, holds[0]);
+    print(rt, b" ");
+    print_cause(rt, causes[0]);
+    print_hold(rt, holds[node]);
+    print(rt, b" ");
+    print_cause(rt, causes[node]);
+    print_counts(rt, counts);
+    print_item(rt, m.delay as u64);
+    print_item(rt, m.ticks as u64);
 }
 
-pub(crate) fn run(v: [u64; 22]) {
-    let reply = master_of(v).step(plan_of(v[1]), event_of(v));
+pub(crate) fn run(rt: &HostRuntime, v: [u64; 22]) {
+    let reply = master_of(v).step(plan_of(rt, v[1]), event_of(v));
     let next = reply.master;
     let command = reply.command;
-    print_master(next, v[1]);
-    print_command(command);
-    print_item(reply.refusal as u64);
-    print_item(reply.node as u64);
-    print_item(reply.lost as u64);
+    print_master(rt, next, v[1]);
+    print_command(rt, command);
+    print_item(rt, reply.refusal as u64);
+    print_item(rt, reply.node as u64);
+    print_item(rt, reply.lost as u64);
 }

@@ -45,52 +45,52 @@ fn event_of(v: [u64; 22]) -> Event {
     }
 }
 
-fn print_command(command: Command) {
+fn print_command(rt: &HostRuntime, command: Command) {
     match command {
-        Command::Nothing => print(b"nothing "),
-        Command::Pulse => print(b"pulse "),
+        Command::Nothing => print(rt, b"nothing "),
+        Command::Pulse => print(rt, b"pulse "),
         Command::Send {
             permission,
             wake,
             count,
         } => {
-            print(b"send ");
-            print_item(permission as u64);
-            print_item(wake as u64);
-            print_item(count as u64);
+            print(rt, b"send ");
+            print_item(rt, permission as u64);
+            print_item(rt, wake as u64);
+            print_item(rt, count as u64);
         }
     }
 }
 
-fn print_delay(delay: Delay) {
+fn print_delay(rt: &HostRuntime, delay: Delay) {
     match delay {
-        Delay::Off => print(b"- "),
-        Delay::On(ticks) => print_item(ticks as u64),
+        Delay::Off => print(rt, b"- "),
+        Delay::On(ticks) => print_item(rt, ticks as u64),
     }
 }
 
-fn print_node(n: Node) {
+fn print_node(rt: &HostRuntime, n: Node) {
     let state = n.state;
     let delay = n.delay;
     let counts = n.counts;
-    print_state(state);
-    print(b" ");
-    print_flag(n.permission, b"permits");
-    print_flag(n.error, b"error");
-    print_flag(n.wake, b"wake");
-    print_flag(n.heard, b"heard");
-    print_flag(n.caller, b"caller");
-    print_item(n.quiet as u64);
-    print_delay(delay);
-    print_item(n.standby as u64);
-    print_counts(counts);
+    print_state(rt, state);
+    print(rt, b" ");
+    print_flag(rt, n.permission, b"permits");
+    print_flag(rt, n.error, b"error");
+    print_flag(rt, n.wake, b"wake");
+    print_flag(rt, n.heard, b"heard");
+    print_flag(rt, n.caller, b"caller");
+    print_item(rt, n.quiet as u64);
+    print_delay(rt, delay);
+    print_item(rt, n.standby as u64);
+    print_counts(rt, counts);
 }
 
-pub(crate) fn run(v: [u64; 22]) {
-    let reply = node_of(v).step(plan_of(v[1]), narrow(v[15]), event_of(v));
+pub(crate) fn run(rt: &HostRuntime, v: [u64; 22]) {
+    let reply = node_of(v).step(plan_of(rt, v[1]), narrow(v[15]), event_of(v));
     let next = reply.node;
     let command = reply.command;
-    print_node(next);
-    print_command(command);
-    print_item(reply.refusal as u64);
+    print_node(rt, next);
+    print_command(rt, command);
+    print_item(rt, reply.refusal as u64);
 }

@@ -9,54 +9,53 @@ use program_files::plan_in;
 use set_plan::Plan;
 use test_output::{print, print_number, print_state, print_status};
 
-fn print_node(node: Node) {
+fn print_node(rt: &HostRuntime, node: Node) {
     let state = node.state;
-    print(b" ");
-    print_state(state);
+    print(rt, b" ");
+    print_state(rt, state);
     if node.error {
-        print(b"!");
+        print(rt, b"!");
     }
 }
 
-fn print_ran(ran: Ran) {
-    print(b" ");
-    print_number(ran.refusal as u64);
+fn print_ran(rt: &HostRuntime, ran: Ran) {
+    print(rt, b" ");
+    print_number(rt, ran.refusal as u64);
     let world = ran.world;
     let master = world.master;
     let state = master.state;
     let phase = master.phase;
-    print(b" ");
-    print_status(state, phase);
+    print(rt, b" ");
+    print_status(rt, state, phase);
     let nodes = world.nodes;
-    print_node(nodes[0]);
-    print_node(nodes[1]);
-    print(b"\n");
+    print_node(rt, nodes[0]);
+    print_node(rt, nodes[1]);
+    print(rt, b"\n");
 }
 
-fn run_file(argument: usize, plan: Plan) {
-    let mut name = io::buffer();
-    let name_length = os::arg(argument, &mut name);
-    print(&name[..name_length]);
-    let mut moves = io::large_buffer();
-    let read = program_files::read_file(b"test_moves", &name[..name_length], &mut moves);
+fn run_file(rt: &HostRuntime, argument: usize, plan: Plan) {
+    let mut name = program_files::line_room();
+    let name_length = program_files::argument(rt, argument, &mut name);
+    print(rt, &name[..name_length]);
+    let mut moves = program_files::text_room();
+    let read = program_files::read_file(rt, b"test_moves", &name[..name_length], &mut moves);
     let count = read.count;
-    print_ran(bus_moves::run(plan, &moves[..count]));
+    print_ran(rt, bus_moves::run(plan, &moves[..count]));
 }
 
-fn main() {
-    let sleeps = plan_in(b"test_moves", b"sleeps.set");
-    let never_sleeps = plan_in(b"test_moves", b"never_sleeps.set");
-    let variable = plan_in(b"test_moves", b"variable.set");
-    let count = os::arg_count();
-    let mut i: usize = 1;
-    while i < count {
-        run_file(i, sleeps);
-        run_file(i, never_sleeps);
-        run_file(i, variable);
-        i += 1;
+fn main(rt: HostRuntime) {
+    let sleeps = plan_in(&rt, b"test_moves", b"sleeps.set");
+    let never_sleeps = plan_in(&rt, b"test_moves", b"never_sleeps.set");
+    let variable = plan_in(&rt, b"test_moves", b"variable.set");
+    let count = program_files::argument_count(&rt);
+    for i in 1..count {
+        run_file(&rt, i, sleeps);
+        run_file(&rt, i, never_sleeps);
+        run_file(&rt, i, variable);
     }
     // No set can hold a refused plan.
     run_file(
+        &rt,
         1,
         Plan {
             revision: 0,

@@ -18,17 +18,17 @@ const NODE: Identity = Identity {
 // As long can a request or a response buffer be.
 const ROOM: usize = 16;
 
-fn print_byte(byte: u8) {
+fn print_byte(rt: &HostRuntime, byte: u8) {
     let mut text = [32u8; 3];
     base_text::append_hex(&mut text, 1, byte);
-    print(&text);
+    print(rt, &text);
 }
 
-fn print_bytes(label: &[u8], bytes: &[u8]) {
-    print(label);
+fn print_bytes(rt: &HostRuntime, label: &[u8], bytes: &[u8]) {
+    print(rt, label);
     let mut i: usize = 0;
     while i < bytes.len() {
-        print_byte(bytes[i]);
+        print_byte(rt, bytes[i]);
         i += 1;
     }
 }
@@ -55,34 +55,34 @@ fn decode(word: &[u8], bytes: &mut [u8]) -> usize {
     i
 }
 
-fn print_outcome(reply: Reply, response: &[u8]) {
+fn print_outcome(rt: &HostRuntime, reply: Reply, response: &[u8]) {
     if reply.refusal != 0 {
-        print(b": refused ");
-        print_number(reply.refusal as u64);
+        print(rt, b": refused ");
+        print_number(rt, reply.refusal as u64);
         return;
     }
     if reply.length == 0 {
-        print(b": silence");
+        print(rt, b": silence");
         return;
     }
     let length = base_text::below(response, reply.length as usize);
-    print_bytes(b": answer", &response[..length]);
+    print_bytes(rt, b": answer", &response[..length]);
 }
 
 // Gives the address after the case.
-fn run(address: u8, request: &[u8], response: &mut [u8]) -> u8 {
-    print_bytes(b"request", request);
+fn run(rt: &HostRuntime, address: u8, request: &[u8], response: &mut [u8]) -> u8 {
+    print_bytes(rt, b"request", request);
     let reply = configure(NODE, address, request, response);
-    print_outcome(reply, response);
-    print_bytes(b", address", &[reply.address]);
-    print_bytes(b", buffer", response);
-    print(b"\n");
+    print_outcome(rt, reply, response);
+    print_bytes(rt, b", address", &[reply.address]);
+    print_bytes(rt, b", buffer", response);
+    print(rt, b"\n");
     reply.address
 }
 
-fn run_case(address: u8, argument: usize) -> u8 {
-    let mut word = io::buffer();
-    let letters = os::arg(argument, &mut word);
+fn run_case(rt: &HostRuntime, address: u8, argument: usize) -> u8 {
+    let mut word = program_files::line_room();
+    let letters = program_files::argument(rt, argument, &mut word);
     let mut bytes = [0u8; ROOM];
     let count = decode(&word[..letters], &mut bytes);
     if count == 0 {
@@ -91,7 +91,7 @@ fn run_case(address: u8, argument: usize) -> u8 {
     let length = base_text::below(&bytes, count - 1);
     let mut buffer = [0xaau8; ROOM];
     let room = base_text::below(&buffer, base_bytes::byte_at(&bytes, length) as usize);
-    run(address, &bytes[..length], &mut buffer[..room])
+    run(rt, address, &bytes[..length], &mut buffer[..room])
 }
 
 fn one_if_same(a: u8, b: u8) -> u64
@@ -115,30 +115,28 @@ fn refused_by(refusal: u8, text: &[u8]) -> u64 {
     count
 }
 
-fn print_refused(refusal: u8, text: &[u8], label: &[u8]) {
-    print_number(refused_by(refusal, text));
-    print(label);
+fn print_refused(rt: &HostRuntime, refusal: u8, text: &[u8], label: &[u8]) {
+    print_number(rt, refused_by(refusal, text));
+    print(rt, label);
 }
 
-fn run_lengths(start: &[u8]) {
+fn run_lengths(rt: &HostRuntime, start: &[u8]) {
     let mut text = [0u8; 4096];
     base_bytes::put(&mut text, 0, start);
-    print_bytes(b"lengths 0 to 4096 of", start);
-    print(b": ");
-    print_refused(0, &text, b" taken, ");
-    print_refused(23, &text, b" refused 23, ");
-    print_refused(24, &text, b" refused 24\n");
+    print_bytes(rt, b"lengths 0 to 4096 of", start);
+    print(rt, b": ");
+    print_refused(rt, 0, &text, b" taken, ");
+    print_refused(rt, 23, &text, b" refused 23, ");
+    print_refused(rt, 24, &text, b" refused 24\n");
 }
 
-fn main() {
-    let count = os::arg_count();
+fn main(rt: HostRuntime) {
+    let count = program_files::argument_count(&rt);
     let mut address: u8 = 0;
-    let mut i: usize = 1;
-    while i < count {
-        address = run_case(address, i);
-        i += 1;
+    for i in 1..count {
+        address = run_case(&rt, address, i);
     }
-    run_lengths(&[0x2e, 0xff, 0x07, 0x01, 0x23, 0x45, 0x67, 0x41]);
-    run_lengths(&[0x22, 0xff, 0x05]);
-    run_lengths(&[0x10]);
+    run_lengths(&rt, &[0x2e, 0xff, 0x07, 0x01, 0x23, 0x45, 0x67, 0x41]);
+    run_lengths(&rt, &[0x22, 0xff, 0x05]);
+    run_lengths(&rt, &[0x10]);
 }

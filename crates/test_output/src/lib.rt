@@ -4,58 +4,61 @@
 
 ghost use Rattle.std.specs.Prelude.{◌≡◌};
 
-use libc::STDOUT_FILENO;
+use base_text::{append_decimal, below};
 use machine_master::{Hold, Phase};
 use machine_state::State;
 
-pub fn print(text: &[u8])
+pub fn print(rt: &HostRuntime, text: &[u8])
     ensures { result ≡ tt }
 {
-    io::write_all(STDOUT_FILENO, text);
+    let _ = rt.write_all(text);
 }
 
-pub fn print_number(number: u64)
+pub fn print_number(rt: &HostRuntime, number: u64)
     ensures { result ≡ tt }
 {
-    io::print_decimal(STDOUT_FILENO, number);
+    let mut digits = [0u8; 20];
+    let end = append_decimal(&mut digits, 0, number);
+    let length = below(&digits, end);
+    print(rt, &digits[..length]);
 }
 
-pub fn print_state(state: State)
+pub fn print_state(rt: &HostRuntime, state: State)
     ensures { result ≡ tt }
 {
     match state {
-        State::Normal => print(b"Normal"),
-        State::Standby => print(b"Standby"),
-        State::Sleep => print(b"Sleep"),
+        State::Normal => print(rt, b"Normal"),
+        State::Standby => print(rt, b"Standby"),
+        State::Sleep => print(rt, b"Sleep"),
     }
 }
 
-fn print_phase(phase: Phase) {
+fn print_phase(rt: &HostRuntime, phase: Phase) {
     match phase {
-        Phase::Open => print(b"Open"),
-        Phase::Sending => print(b"Sending"),
-        Phase::Withdrawn => print(b"Withdrawn"),
-        Phase::Closing => print(b"Closing"),
+        Phase::Open => print(rt, b"Open"),
+        Phase::Sending => print(rt, b"Sending"),
+        Phase::Withdrawn => print(rt, b"Withdrawn"),
+        Phase::Closing => print(rt, b"Closing"),
     }
 }
 
 // A master's state and phase.
-pub fn print_status(state: State, phase: Phase)
+pub fn print_status(rt: &HostRuntime, state: State, phase: Phase)
     ensures { result ≡ tt }
 {
-    print_state(state);
-    print(b" ");
-    print_phase(phase);
+    print_state(rt, state);
+    print(rt, b" ");
+    print_phase(rt, phase);
 }
 
 // Whether a permission is held, and its age.
-pub fn print_hold(hold: Hold)
+pub fn print_hold(rt: &HostRuntime, hold: Hold)
     ensures { result ≡ tt }
 {
     if hold.held {
-        print(b"held ");
+        print(rt, b"held ");
     } else {
-        print(b"- ");
+        print(rt, b"- ");
     }
-    print_number(hold.age as u64);
+    print_number(rt, hold.age as u64);
 }

@@ -5,9 +5,9 @@
 use set_plan::Plan;
 use test_output::{print, print_number};
 
-fn print_item(number: usize) {
-    print(b" ");
-    print_number(number as u64);
+fn print_item(rt: &HostRuntime, number: usize) {
+    print(rt, b" ");
+    print_number(rt, number as u64);
 }
 
 // Whether the front of a buffer holds a set and the rest is as it was.
@@ -24,47 +24,45 @@ fn holds(buffer: &[u8], set: &[u8]) -> bool {
 }
 
 // Writes a set's record into a buffer that held the byte 170 throughout, and prints what became of it.
-fn write_back(plan: Plan, set: &[u8], buffer: &mut [u8]) {
+fn write_back(rt: &HostRuntime, plan: Plan, set: &[u8], buffer: &mut [u8]) {
     let result = set_writer::write(plan, buffer);
-    print(b"write");
-    print_item(result.refusal as usize);
-    print_item(result.length);
+    print(rt, b"write");
+    print_item(rt, result.refusal as usize);
+    print_item(rt, result.length);
     if holds(buffer, b"") {
-        print(b" untouched\n");
+        print(rt, b" untouched\n");
         return;
     }
     if holds(buffer, set) {
-        print(b" same\n");
+        print(rt, b" same\n");
         return;
     }
-    print(b" other\n");
+    print(rt, b" other\n");
 }
 
-fn show_file(argument: usize) {
-    let mut name = io::buffer();
-    let name_length = os::arg(argument, &mut name);
-    print(&name[..name_length]);
+fn show_file(rt: &HostRuntime, argument: usize) {
+    let mut name = program_files::line_room();
+    let name_length = program_files::argument(rt, argument, &mut name);
+    print(rt, &name[..name_length]);
     let mut set = program_files::set_room();
-    let read = program_files::read_file(b"test_sets", &name[..name_length], &mut set);
+    let read = program_files::read_file(rt, b"test_sets", &name[..name_length], &mut set);
     let count = read.count;
     let result = set_reader::read(&set[..count]);
     let plan = result.plan;
-    print_item(result.refusal as usize);
-    print(b"\n");
-    let mut out = io::large_buffer();
+    print_item(rt, result.refusal as usize);
+    print(rt, b"\n");
+    let mut out = program_files::text_room();
     let length = set_text::show(&set[..count], &mut out);
-    print(&out[..length]);
+    print(rt, &out[..length]);
     let mut roomy = [170u8; 1600];
-    write_back(plan, &set[..count], &mut roomy);
+    write_back(rt, plan, &set[..count], &mut roomy);
     let mut short = [170u8; 1023];
-    write_back(plan, &set[..count], &mut short);
+    write_back(rt, plan, &set[..count], &mut short);
 }
 
-fn main() {
-    let count = os::arg_count();
-    let mut i: usize = 1;
-    while i < count {
-        show_file(i);
-        i += 1;
+fn main(rt: HostRuntime) {
+    let count = program_files::argument_count(&rt);
+    for i in 1..count {
+        show_file(&rt, i);
     }
 }

@@ -13,7 +13,6 @@ ghost use Rattle.std.specs.Prelude.{◌≤◌, length};
 
 use base_bytes::put;
 use bus::World;
-use libc::{STDIN_FILENO, STDOUT_FILENO};
 use machine_node::Node;
 use packed_master::put_master;
 use packed_node::put_node;
@@ -56,10 +55,10 @@ fn put_frame(frame: &mut [u8], kind: u8, refusal: u8, world: World)
 }
 
 // Reads a record, which only the end of the input cuts short, and writes its frame.
-fn step_on(plan: Plan, world: World, input: &mut [u8], frame: &mut [u8]) -> Turn
+fn step_on(rt: &HostRuntime, plan: Plan, world: World, input: &mut [u8], frame: &mut [u8]) -> Turn
     requires { 2491 ≤ length frame.old }
 {
-    let count = io::read_full(STDIN_FILENO, input);
+    let count = program_files::read_input(rt, input);
     if count == 0 {
         return Turn { world, more: false };
     }
@@ -67,35 +66,33 @@ fn step_on(plan: Plan, world: World, input: &mut [u8], frame: &mut [u8]) -> Turn
     let next = moved.world;
     let right = bus_moves::is_move(&input[..count]);
     put_frame(frame, kind(right), refusal(right, moved.refusal), next);
-    let more = io::write_all(STDOUT_FILENO, &frame[..2491]);
+    let more = rt.write_all(&frame[..2491]).is_ok();
     Turn { world: next, more }
 }
 
-// The turns are counted down, from a number that no run uses up.
-fn run(plan: Plan) {
+// The turns are counted, up to a number that no run uses up.
+fn run(rt: &HostRuntime, plan: Plan) {
     let mut space = [0; bus_moves::MOVE_LENGTH];
     let input: &mut [u8] = &mut space;
-    let mut room = io::buffer();
+    let mut room = program_files::line_room();
     let frame: &mut [u8] = &mut room;
     let mut world = World::power_on(plan.sleeps());
-    let mut turns = u64::MAX;
-    while 0 < turns {
-        let turn = step_on(plan, world, input, frame);
+    for _ in 0..u64::MAX {
+        let turn = step_on(rt, plan, world, input, frame);
         world = turn.world;
         if !turn.more {
             return;
         }
-        turns -= 1;
     }
 }
 
-fn main() {
+fn main(rt: HostRuntime) {
     let mut set = program_files::set_room();
-    let read = program_files::read_file(b"test_states", b"plan.set", &mut set);
+    let read = program_files::read_file(&rt, b"test_states", b"plan.set", &mut set);
     let count = read.count;
     let result = set_reader::read(&set[..count]);
     let plan = result.plan;
     if result.refusal == 0 {
-        run(plan);
+        run(&rt, plan);
     }
 }
