@@ -54,10 +54,10 @@ loop-i-preserved c =
       e.1 ∙ left_on number c.loop-i.state c.args.state.now m t.4 next.master ∙ ap (left_under number c.args.state.now) (sym e.2),
       rw (add-one i) (ap (λ (n : Master). master_after p n (drop (suc i) es)) e.2 ∙ sym (next_master p m es i l) ∙ t.5),
       rw (add-one i) (
-        ap (λ (n : Master). replies_from p n (drop (suc i) es) (suc i) (set rs i c.reply_of-reply.result)) e.2
-        ∙ ap (λ (y : ReplyRecord). replies_from p next.master (drop (suc i) es) (suc i) (set rs i y)) e.0
-        ∙ sym (next_replies p m es i rs l) ∙ t.6
-      ),
+          ap (λ (n : Master). replies_from p n (drop (suc i) es) (suc i) (set rs i c.reply_of-reply.result)) e.2
+          ∙ ap (λ (y : ReplyRecord). replies_from p next.master (drop (suc i) es) (suc i) (set rs i y)) e.0
+          ∙ sym (next_replies p m es i rs l) ∙ t.6
+          ),
     )
 
 -- src/lib.rt:95:1

@@ -28,7 +28,7 @@ loop-start-preserved c =
     let held = c.with-held in
     let d = drill a.self.plan b.world b.lines b.held in
     let line : LinePrinted d.plan d.world c.wrapping_add_u64-lines.result c.line-line.result b.next b.out c.match-line.out c.match-line.world c.match-line.next = elim c.match-line.branch [
-      in-Bad w ↦ line_bad d.plan d.world c.wrapping_add_u64-lines.result w.in-Bad.is w.out-is w.world-is w.next-is w.append_bad-next.ensures w.append_bad-next.auto.buffer
+      | in-Bad w ↦ line_bad d.plan d.world c.wrapping_add_u64-lines.result w.in-Bad.is w.out-is w.world-is w.next-is w.append_bad-next.ensures w.append_bad-next.auto.buffer
       | in-Move w ↦ line_move d.plan d.world c.wrapping_add_u64-lines.result w.in-Move.is w.on_drill_bus.ensures w.act-moved.ensures w.out-is w.world-is w.next-is w.append_move-next.ensures w.append_move-next.auto.buffer
     ] in
     let g = ends (keeps d held.result) c.line-line.ensures c.wrapping_add_u64-lines.ensures.value c.empty-held.ensures line in (

@@ -22,7 +22,7 @@ loop-k-preserved c =
     let number = c.wrapping_add_u64-number.result in
     let bytes = c.record_at-bytes.result.now in
     let line : RecordPrinted now.plan now.world number bytes at.next at.out c.if-is_move.out c.if-is_move.world c.if-is_move.next = elim c.if-is_move.branch [
-      then-is_move w ↦ record_move now.plan now.world number bytes (moves ∙ w.if-is_move.true) w.move_of.ensures w.act-moved.ensures w.out-is w.world-is w.next-is w.append_move-next.ensures w.append_move-next.auto.buffer
+      | then-is_move w ↦ record_move now.plan now.world number bytes (moves ∙ w.if-is_move.true) w.move_of.ensures w.act-moved.ensures w.out-is w.world-is w.next-is w.append_move-next.ensures w.append_move-next.auto.buffer
       | else-is_move w ↦ record_bad now.plan now.world number bytes (moves ∙ w.if-is_move.false) w.out-is w.world-is w.next-is w.append_bad-next.ensures w.append_bad-next.auto.buffer
     ] in (
       within,
