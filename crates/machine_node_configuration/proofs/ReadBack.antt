@@ -1,5 +1,5 @@
 -- What the two reads report is the packed identity, byte for byte.
-use Prim.Native.Nat.{ℕ, ◌+◌, ◌<◌}
+use Prim.Native.Nat.{ℕ, ◌<◌}
 use mathlib.Core.Path.{◌≡◌, refl, sym}
 use mathlib.Core.List.{List, ◌++◌}
 use lib.ListN.{length, drop}

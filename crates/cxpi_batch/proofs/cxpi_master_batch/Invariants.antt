@@ -1,5 +1,5 @@
 -- The loop's head: the number stands, the bytes are left under it, and the events that are left give the promise.
-use Rattle.std.proofs.Common.{length, ◌-◌, ◌≡◌, ℕ, ◌+◌, ◌*◌, ◌<◌, ◌≤◌}
+use Rattle.std.proofs.Common.{length, ◌-◌, ◌≡◌, ◌≤◌}
 use lib.ListN.{drop}
 use Rattle.set_record.specs.Record.{record_of}
 use Rattle.machine_batch.specs.Batch.{master_after, replies_to}

@@ -1,5 +1,5 @@
 -- By the machine.
-use Rattle.std.proofs.Common.{rules, ◌≡◌}
+use Rattle.std.proofs.Common.{rules}
 use Rattle.cxpi_batch.proofs.BatchStates.{machine_done}
 use Rattle.cxpi_batch.proofs.machine_step.Goals as goal
 

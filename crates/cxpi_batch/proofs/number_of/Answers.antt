@@ -1,5 +1,5 @@
 -- By the plan, then by the state.
-use Rattle.std.proofs.Common.{rules, ◌≡◌, true, false}
+use Rattle.std.proofs.Common.{rules, true}
 use Rattle.cxpi_batch.proofs.BatchStates.{plan_stands, state_stands, none_stands}
 use Rattle.cxpi_batch.proofs.number_of.Goals as goal
 

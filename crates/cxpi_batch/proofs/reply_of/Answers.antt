@@ -1,5 +1,5 @@
 -- By the number, then by what is done in the bytes.
-use Rattle.std.proofs.Common.{rules, ◌≡◌}
+use Rattle.std.proofs.Common.{rules}
 use Rattle.cxpi_batch.proofs.BatchStates.{refused_done, in_place_done, left_stands, left_done}
 use Rattle.cxpi_batch.proofs.reply_of.Goals as goal
 

@@ -7,7 +7,6 @@ use native.Mathlib.Numerals.{add-one}
 use native.Mathlib.Omega.{arith}
 use lib.ListN.{get_or, set, drop, length-set}
 use borrow.Author.Tests.{le-ltb}
-use Rattle.set_plan.specs.Rules.{plan_refusal}
 use Rattle.machine_batch.specs.declared.Stepped.{Stepped}
 use Rattle.machine_batch.specs.Batch.{stepped_by, stepped, master_after, replies_to}
 use Rattle.machine_batch.proofs.Loop.{no_record, replies_from, from_start, next_master, next_replies, last_master, last_replies}

@@ -1,9 +1,5 @@
 -- By the state, then by what is done in its bytes.
-use Rattle.std.proofs.Common.{rules, ◌≡◌, true, false, ◌<◌}
-use mathlib.Core.Path.{sym, ◌∙◌}
-use native.Mathlib.Omega.{arith}
-use borrow.Author.Tests.{not-true, not-false}
-use Rattle.set_plan.specs.declared.Plan.{Plan}
+use Rattle.std.proofs.Common.{rules, ◌≡◌, true}
 use Rattle.set_plan.specs.Profile.{sleeps}
 use Rattle.set_record.specs.Record.{record_of}
 use Rattle.machine_master.specs.Range.{in_range}
