@@ -15,10 +15,10 @@ use set_reader::ReadResult;
 use std::env::{Env, FillError};
 use std::fs::File;
 use std::io;
-use std::io::{ErrorKind, Read};
+use std::io::Read;
 use words::words_of;
 
-// EILSEQ: the name of a file is text.
+// EILSEQ of Linux: the name of a file is text.
 const NO_TEXT: i32 = 84;
 
 // How many bytes were read, and whether none failed to be.
@@ -91,19 +91,14 @@ fn fail(rt: &HostRuntime, program: &[u8], what: &[u8], error: io::Error) {
     say(rt, b"\n");
 }
 
-// Prints a text if all before it was printed, and tells whether all is. So a write that fails is told once, and is the last. A pipe that
-// nobody reads is not told: the system's signal, which the runtime keeps from main, would end the process there without a word.
+// Prints a text if all before it was printed, and tells whether all is. So a write that fails is told once, and is the last.
 pub fn print(rt: &HostRuntime, program: &[u8], before: bool, text: &[u8]) -> bool
     ensures { before ≡ false → result ≡ false }
 {
     if before {
         match rt.write_all(text) {
             Ok(()) => return true,
-            Err(error) => {
-                if error.kind() != ErrorKind::BrokenPipe {
-                    fail(rt, program, b"output", error);
-                }
-            }
+            Err(error) => fail(rt, program, b"output", error),
         }
     }
     false
