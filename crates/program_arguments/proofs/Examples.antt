@@ -1,7 +1,7 @@
 -- Arguments judged.
 use Prim.Native.String.{String}
 use mathlib.Core.Path.{◌≡◌, refl}
-use mathlib.Core.List.{List, ◌∷◌, map}
+use mathlib.Core.List.{List, [], ◌∷◌, map}
 use Rattle.base_text.specs.Text.{ascii, same}
 use Rattle.program_arguments.specs.declared.Invocation.{Invocation}
 use Rattle.program_arguments.specs.Arguments.{invocation_of, usage_text}
