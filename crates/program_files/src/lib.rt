@@ -18,7 +18,7 @@ use std::io;
 use std::io::Read;
 use words::words_of;
 
-// EILSEQ of Linux: the name of a file is text.
+// EILSEQ of Linux. The library opens files whose names are UTF-8.
 const NO_TEXT: i32 = 84;
 
 // How many bytes were read, and whether none failed to be.
@@ -71,7 +71,7 @@ pub fn argument(rt: &HostRuntime, index: usize, buffer: &mut [u8]) -> usize
     }
 }
 
-// Says on standard error what can't fail in a way that is told anywhere.
+// Writes on standard error. A write that fails there is told nowhere.
 fn say(rt: &HostRuntime, text: &[u8]) {
     let _ = rt.stderr().write_all(text);
 }
