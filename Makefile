@@ -1,10 +1,10 @@
-# rt proves and builds what has changed; rt ci starts from nothing and gives the verdict.
+# rt proves and builds what has changed; rt ci proves from nothing all that it has not passed on this machine, and gives the verdict.
 .PHONY: help run picture why show replay test bench lib firmware cases clean
 
-# The targets, by the lines `## ..` below: what each does, what it needs beside make, and how long it takes on 2 processors.
+# The targets, by the lines `## ..` below: what each does, what it needs beside make, and how long it took on 2 processors with an older kit.
 help:
 	@awk -F '## |, needs |; ' '/^[a-z]+:.*## / { name = $$1; sub(/:.*/, "", name); \
-	    if (!heads++) printf "%-9s %-62s %-22s %s\n", "make ..", "", "needs", "takes"; \
+	    if (!heads++) printf "%-9s %-62s %-22s %s\n", "make ..", "", "needs", "took (older kit)"; \
 	    printf "%-9s %-62s %-22s %s\n", name, $$2, $$3, $$4 }' Makefile
 
 # The example drill, R6.7: its twelve moves on set T.
@@ -78,5 +78,5 @@ cases: ## the stored cases and what must be printed of them anew, needs python3;
 	python3 tools/picture.py --moves examples/set-t/moves < crates/drill/stdout > tests/picture/drill.svg
 
 # All that was made.
-clean: ## removes target/, needs nothing; no time
-	rm -rf target
+clean: ## removes target/ and what rt made, needs nothing; no time
+	rm -rf target crates/*/out

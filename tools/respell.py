@@ -3,8 +3,9 @@
 
 usage: python3 tools/respell.py [--check]
 
-It was run once, after /opt/rattle/port/port.py; a second run changes nothing. It goes by whole words, over specs/, proofs/, the clauses of src/, the
-must-fail edits, the documents and the tests, and prints each name that it leaves because the new one is taken.
+It was run once, right after /opt/rattle/port/port.py, and is kept for docs/PORT.md alone: proofs that were written since have names of the kit's with dashes,
+which it would turn. It goes by whole words, over specs/, proofs/, the clauses of src/ and the must-fail edits, and prints each name that it leaves because the
+new one is taken.
 """
 
 import glob

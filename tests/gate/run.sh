@@ -10,7 +10,7 @@ c_tests=$2
 here=$(dirname "$0")
 
 mkdir -p target
-rm -f target/ci.status
+echo 1 > target/ci.status
 # What rt ci makes is newer than this file.
 : > target/ci.began
 # A pipe has the status of its last command alone, so that of rt ci goes through a file; without the file it did not end by itself.
