@@ -8,11 +8,12 @@ which the two lines `target ..` are taken. OUT is the module retargeted, each fu
 
 The code stays as it is: usize has 64 bits, and a place has the size and the offsets that it has on x86-64, where a pointer fills
 the first four of its eight bytes. What changes: the target, three attributes that are x86-64's, names with `::`, which get a dot for it, places
-of one pointer, which are made eight bytes long, and the lengths of the exported functions, which become 32 bits wide (`size_t`) and are extended by zeros on entry.
+of one pointer, which are made eight bytes long, records, which are read part by part where x86-64 has the parts, and the lengths of the exported functions,
+which become 32 bits wide (`size_t`) and are extended by zeros on entry.
 
 That is right of a module in which nothing depends on the width of a pointer, and of no other. So every line has one of the few forms
 below or the module is refused: no pointer becomes a number or is compared but with null, steps over memory are in bytes, alignments are written out,
-a record is of numbers that every target lays out alike, nothing is called outside but LLVM's memmove, memset and trap. And no byte of a pointer is read
+records are of numbers and are only read, nothing is called outside but LLVM's memmove, memset and trap. And no byte of a pointer is read
 or written as a number, or copied or set to zero without the rest (class Places)."""
 import re
 import sys
@@ -20,14 +21,14 @@ from collections import namedtuple
 
 REGISTER = r'%[\w.]+'
 NUMBER = r'i(?:1|8|16|32|64)'
-RECORD = r'{ i(?:8|16|32)(?:, i(?:8|16|32))* }'  # its parts as C has them, on each target
+RECORD = r'{ i(?:8|16|32|64)(?:, i(?:8|16|32|64))* }'
 RESULT = rf'(?:{NUMBER}|{RECORD})'
 VALUE = rf'(?:{REGISTER}|-?\d+|true|false)'
 NAME = r'@(?:"[^"]+"|\w+)'
 LABEL = rf'label {REGISTER}'
 NOTES = r'(?:, !(?:noundef|range) !\d+)*'
 FORMS = {kind: re.compile(form) for kind, form in {
-    'load': rf'({REGISTER}) = load ({RESULT}|ptr), ptr ({REGISTER}), align \d+{NOTES}',
+    'load': rf'({REGISTER}) = load ({RESULT}|ptr), ptr ({REGISTER}), align (\d+){NOTES}',
     'store': rf'store ({NUMBER}|ptr) ({VALUE}), ptr ({REGISTER}), align \d+',
     'place': rf'({REGISTER}) = alloca (?:{NUMBER}|ptr|\[\d+ x i8\]), align \d+',
     'step': rf'({REGISTER}) = getelementptr (?:inbounds )?(?:nuw )?i8, ptr ({REGISTER}), i64 ({VALUE})',
@@ -46,7 +47,7 @@ FORMS = {kind: re.compile(form) for kind, form in {
     'label': r'[\w.]+:',
 }.items()}
 DEFINE = re.compile(rf'define (internal )?(?:noundef )?(zeroext )?(void|{RESULT}) ({NAME})\((.*)\) #0 {{')
-PARAMETER = re.compile(rf'(ptr|{NUMBER}) noundef (?:zeroext )?({REGISTER})')
+PARAMETER = re.compile(rf'(ptr|{NUMBER}) (?:noundef )?(?:zeroext )?({REGISTER})')
 ARGUMENT = re.compile(rf'(ptr|{NUMBER}) ({VALUE})')
 X86_64 = {
     'target datalayout = "e-m:e-p270:32:32-p271:32:32-p272:64:64-i64:64-i128:128-f80:128-n8:16:32:64-S128"',
@@ -110,12 +111,35 @@ def read_functions(lines):
     return functions
 
 
+def parts_of(kind):
+    """The numbers of a record with the offsets that they have on x86-64; a number is its own part."""
+    parts, end = [], 0
+    for part in kind.strip('{ }').split(', '):
+        end += -end % BYTES[part]
+        parts.append((part, end))
+        end += BYTES[part]
+    return parts
+
+
 def bytes_of(kind):
     """The bytes of a number, or of a record up to the end of its last part."""
-    end = 0
-    for part in kind.strip('{ }').split(', '):
-        end += -end % BYTES[part] + BYTES[part]
-    return end
+    last, offset = parts_of(kind)[-1]
+    return offset + BYTES[last]
+
+
+def read_by_parts(load):
+    """The lines for the load of a record."""
+    register, kind, pointer, alignment = load
+    lines, whole = [], 'poison'
+    for number, (part, offset) in enumerate(parts_of(kind)):
+        own = alignment if offset == 0 else min(alignment, offset & -offset)
+        lines.append(f'  {register}.at{number} = getelementptr i8, ptr {pointer}, i64 {offset}')
+        lines.append(f'  {register}.part{number} = load {part}, ptr {register}.at{number}, align {own}')
+        lines.append(f'  {register}.with{number} = insertvalue {kind} {whole}, {part} {register}.part{number}, {number}')
+        whole = f'{register}.with{number}'
+    # the last one is the record
+    lines[-1] = lines[-1].replace(f'{whole} =', f'{register} =')
+    return '\n'.join(lines)
 
 
 class Places:
@@ -274,9 +298,11 @@ def retargeted(lines, functions, target_lines, attributes):
     """The module for the new target."""
     lines = list(lines)
     for function in functions.values():
-        for index, kind, _ in function.body:
+        for index, kind, match in function.body:
             if kind == 'place':
                 lines[index] = lines[index].replace(' alloca ptr,', f' alloca [{POINTER} x i8],')
+            elif kind == 'load' and match[2].startswith('{'):
+                lines[index] = read_by_parts((*match.groups()[:3], int(match[4])))
         if not function.exported:
             lines[function.head] = lines[function.head].replace(' zeroext ', ' ')
             continue
@@ -297,8 +323,6 @@ def read_target(text):
     lines = [line for line in text.splitlines() if line.startswith('target ')]
     if len(lines) != 2 or not re.fullmatch(r'target datalayout = "e-(?:[^"]*-)?p:32:32-[^"]*"', lines[0]):
         raise Refused('the new target is not little-endian with 32-bit pointers')
-    if re.search(r'-i(?:8|16|32):', lines[0]):
-        raise Refused('the new target aligns numbers of up to 32 bits in a way of its own')
     return lines
 
 
