@@ -10,11 +10,15 @@ out=$root/target/firmware
 modules=$out/modules
 clang=$toolchain/bin/clang
 
-# What rattle tells clang, but for target, optimisation and position independence. By the thresholds each call becomes one function: apart,
+# What rattle tells clang, but for target, optimisation and position independence. By the inlining thresholds each call becomes one function: apart,
 # plans and states would be copied from frame to frame, for twice the stack. The second is for what stands behind many refusals, which clang
-# takes for cold.
-common="-mllvm -inline-threshold=3000 -mllvm -inline-cold-callsite-threshold=3000 -ffunction-sections -fdata-sections -mllvm -trap-unreachable -mllvm -no-trap-after-noreturn \
--mllvm -disable-machine-licm -mllvm -disable-postra-machine-licm -mllvm -sink-common-insts=false --no-default-config -no-canonical-prefixes -fintegrated-cc1 -fno-crash-diagnostics -Werror"
+# takes for cold. Every place is set to zero where a function begins, and mostly written whole before it is read: by the limits for dead stores
+# clang sees that in functions of this length, for less than half of the stack.
+common="-mllvm -inline-threshold=3000 -mllvm -inline-cold-callsite-threshold=3000 \
+-mllvm -dse-memoryssa-scanlimit=100000 -mllvm -dse-memoryssa-walklimit=100000 \
+-ffunction-sections -fdata-sections -mllvm -trap-unreachable -mllvm -no-trap-after-noreturn -mllvm -disable-machine-licm \
+-mllvm -disable-postra-machine-licm -mllvm -sink-common-insts=false --no-default-config -no-canonical-prefixes -fintegrated-cc1 \
+-fno-crash-diagnostics -Werror"
 
 # origin TARGET-VARIANT FLAGS
 origin() {

@@ -11,6 +11,9 @@ the first four of its eight bytes. What changes: the target, three attributes th
 of one pointer, which are made eight bytes long, records, which are read part by part where x86-64 has the parts, and the lengths of the exported functions,
 which become 32 bits wide (`size_t`) and are extended by zeros on entry.
 
+And zeros go where nothing can tell (class Zeros): rattle sets each place to zero where its function begins, and clang does not see in functions of
+this length that most are written whole before they are read, and keeps a copy of a state for each.
+
 That is right of a module in which nothing depends on the width of a pointer, and of no other. So every line has one of the few forms
 below or the module is refused: no pointer becomes a number or is compared but with null, steps over memory are in bytes, alignments are written out,
 records are of numbers and are only read, nothing is called outside but LLVM's memmove, memset and trap. And no byte of a pointer is read
@@ -30,7 +33,7 @@ NOTES = r'(?:, !(?:noundef|range) !\d+)*'
 FORMS = {kind: re.compile(form) for kind, form in {
     'load': rf'({REGISTER}) = load ({RESULT}|ptr), ptr ({REGISTER}), align (\d+){NOTES}',
     'store': rf'store ({NUMBER}|ptr) ({VALUE}), ptr ({REGISTER}), align \d+',
-    'place': rf'({REGISTER}) = alloca (?:{NUMBER}|ptr|\[\d+ x i8\]), align \d+',
+    'place': rf'({REGISTER}) = alloca (?:{NUMBER}|ptr|\[(\d+) x i8\]), align \d+',
     'step': rf'({REGISTER}) = getelementptr (?:inbounds )?(?:nuw )?i8, ptr ({REGISTER}), i64 ({VALUE})',
     'move': rf'call void @llvm\.memmove\.p0\.p0\.i64\(ptr ({REGISTER}), ptr ({REGISTER}), i64 ({VALUE}), i1 false\)',
     'fill': rf'call void @llvm\.memset\.p0\.i64\(ptr ({REGISTER}), i8 ({VALUE}), i64 ({VALUE}), i1 false\)',
@@ -261,6 +264,84 @@ class Places:
                     raise Refused(f'line {index + 1}: a part of a pointer is set to zero')
 
 
+class Zeros:
+    """The lines that set a place to zero for nothing: wherever the function goes from there, the first that it does with the place is to write it whole,
+    by a copy or by a call of a function that does so and nothing else with its first parameter."""
+
+    def __init__(self, functions):
+        self.whole = {}  # functions that write so many bytes behind their first parameter
+        for name, function in functions.items():
+            self.writes_whole(name, function)
+        self.needless = [index for function in functions.values() for index in self.of(function)]
+
+    @staticmethod
+    def named(registers):
+        return re.compile('(?:' + '|'.join(map(re.escape, sorted(registers))) + r')(?![\w.])')
+
+    @staticmethod
+    def blocks(function):
+        blocks, name = {}, None
+        for line in function.body:
+            name = line[2][0][:-1] if line[1] == 'label' else name
+            blocks.setdefault(name, []).append(line)
+        return blocks
+
+    def writes_whole(self, name, function):
+        if not function.parameters or function.parameters[0][0] != 'ptr':
+            return
+        own = function.parameters[0][1]
+        lengths = set()
+        for lines in self.blocks(function).values():
+            written = False
+            for _, kind, match in lines:
+                if kind == 'move' and match[1] == own and match[2] != own:
+                    lengths.add(match[3])
+                    written = True
+                elif self.named([own]).search(match.string) or (kind == 'return' and not written):
+                    return
+        if len(lengths) == 1 and next(iter(lengths)).isdigit():
+            self.whole[name] = lengths.pop()
+
+    def of(self, function):
+        blocks = self.blocks(function)
+        start = next(iter(blocks), None)
+        lengths = {match[1]: match[2] for _, kind, match in blocks.get(start, []) if kind == 'place'}
+        for index, kind, match in blocks.get(start, []):
+            if kind == 'fill' and match[2] == '0' and match[3] == lengths.get(match[1]) and self.is_needless(function, blocks, start, index, match):
+                yield index
+
+    def is_needless(self, function, blocks, start, index, fill):
+        place, length = fill[1], fill[3]
+        registers = {place}
+        for _, kind, match in function.body:
+            if kind == 'step' and match[2] in registers:
+                registers.add(match[1])
+        own = self.named(registers)
+        seen, ahead = set(), [start]
+        while ahead:
+            name = ahead.pop()
+            if name in seen:
+                continue
+            seen.add(name)
+            for at, kind, match in blocks[name]:
+                if at == index or kind == 'step' or (kind == 'place' and match[1] == place) or not own.search(match.string):
+                    if kind in ('go', 'switch'):
+                        ahead += re.findall(r'label %([\w.]+)', match.string)
+                    continue
+                if at < index or not self.is_whole(kind, match, place, length, own):
+                    return False
+                break
+        return True
+
+    def is_whole(self, kind, match, place, length, own):
+        if kind == 'move':
+            return match[1] == place and match[3] == length and not own.search(match[2])
+        if kind == 'call' and self.whole.get(match[1]) == length:
+            first, *rest = match[2].split(', ')
+            return first == f'ptr {place}' and not own.search(', '.join(rest))
+        return False
+
+
 def read_header(text):
     """The functions that a header declares and does not define: name -> (result, kinds of the parameters), as a module has them."""
     for left_out in (r'/\*.*?\*/', r'^\s*#(?:[^\n]*\\\n)*[^\n]*$', r'extern "C" {', r'"(?:[^"\\]|\\.)*"'):
@@ -297,6 +378,8 @@ def hold_to_header(functions, declared):
 def retargeted(lines, functions, target_lines, attributes):
     """The module for the new target."""
     lines = list(lines)
+    for index in Zeros(functions).needless:
+        lines[index] = None
     for function in functions.values():
         for index, kind, match in function.body:
             if kind == 'place':
@@ -314,7 +397,7 @@ def retargeted(lines, functions, target_lines, attributes):
                 lines[function.head + 1] += f'\n  {register} = zext i32 {register}.length to i64'
     own = lines.index(OWN_ATTRIBUTES)
     lines[own] = f'attributes #0 = {{ {" ".join([*attributes, "nounwind"])} }}'
-    text = '\n'.join(target_lines + [line for line in lines if line not in X86_64]) + '\n'
+    text = '\n'.join(target_lines + [line for line in lines if line is not None and line not in X86_64]) + '\n'
     # An assembler for RISC-V calls no name in quotes.
     return re.sub(r'@"([\w:]+)"', lambda name: '@' + name[1].replace('::', '.'), text)
 

@@ -98,6 +98,34 @@ start:
   ret { i8, i64, i16 } %r1
 }
 
+define internal void @"total::pair"(ptr noundef %p0, i8 noundef %p1) #0 {
+start:
+  %p2 = alloca [6 x i8], align 1
+  call void @llvm.memset.p0.i64(ptr %p2, i8 0, i64 6, i1 false)
+  store i8 %p1, ptr %p2, align 1
+  call void @llvm.memmove.p0.p0.i64(ptr %p0, ptr %p2, i64 6, i1 false)
+  ret void
+}
+
+define internal i8 @"total::choice"(ptr noundef %c0, i1 noundef %c1) #0 {
+start:
+  %c2 = alloca [6 x i8], align 1
+  call void @llvm.memset.p0.i64(ptr %c2, i8 0, i64 6, i1 false)
+  br i1 %c1, label %then.1, label %else.2
+
+then.1:                                           ; preds = %start
+  call void @"total::pair"(ptr %c2, i8 7)
+  br label %join.3
+
+else.2:                                           ; preds = %start
+  call void @llvm.memmove.p0.p0.i64(ptr %c2, ptr %c0, i64 6, i1 false)
+  br label %join.3
+
+join.3:                                           ; preds = %else.2, %then.1
+  %c3 = load i8, ptr %c2, align 1
+  ret i8 %c3
+}
+
 define noundef i32 @total_of(ptr noundef %a0, i64 noundef %a1, ptr noundef %a2, i8 noundef %a3) #0 {
 start:
   %r0 = alloca [16 x i8], align 8
@@ -111,6 +139,7 @@ start:
   store i64 %a1, ptr %r1, align 8
   %r2 = alloca [24 x i8], align 1
   call void @llvm.memset.p0.i64(ptr %r2, i8 0, i64 24, i1 false)
+  store i8 %a3, ptr %r2, align 1
   %r3 = call { i8, i64, i16 } @"total::limits"(i8 %a3, i16 0)
   %r4 = extractvalue { i8, i64, i16 } %r3, 0
   call void @"total::add"(ptr %r0, ptr %a2, i8 %a3)
@@ -154,6 +183,10 @@ GONE = [
     '  %r10 = call i1 @"total::is_below"(i8 %r9, i8 %a2, i1 true)',
     'define internal { i8, i64, i16 } @"total::limits"(i8 noundef %a0, i16 %a1) #0 {',
     '  %r1 = load { i8, i64, i16 }, ptr %r0, align 8',
+    'define internal void @"total::pair"(ptr noundef %p0, i8 noundef %p1) #0 {',
+    'define internal i8 @"total::choice"(ptr noundef %c0, i1 noundef %c1) #0 {',
+    '  call void @llvm.memset.p0.i64(ptr %c2, i8 0, i64 6, i1 false)',
+    '  call void @"total::pair"(ptr %c2, i8 7)',
     'define noundef i32 @total_of(ptr noundef %a0, i64 noundef %a1, ptr noundef %a2, i8 noundef %a3) #0 {',
     '  %r3 = call { i8, i64, i16 } @"total::limits"(i8 %a3, i16 0)',
     '  call void @"total::add"(ptr %r0, ptr %a2, i8 %a3)',
@@ -176,6 +209,9 @@ COME = [
     '  %r1.at2 = getelementptr i8, ptr %r0, i64 16',
     '  %r1.part2 = load i16, ptr %r1.at2, align 8',
     '  %r1 = insertvalue { i8, i64, i16 } %r1.with1, i16 %r1.part2, 2',
+    'define internal void @total.pair(ptr noundef %p0, i8 noundef %p1) #0 {',
+    'define internal i8 @total.choice(ptr noundef %c0, i1 noundef %c1) #0 {',
+    '  call void @total.pair(ptr %c2, i8 7)',
     'define noundef i32 @total_of(ptr noundef %a0, i32 noundef %a1.length, ptr noundef %a2, i8 noundef %a3) #0 {',
     '  %a1 = zext i32 %a1.length to i64',
     '  %r3 = call { i8, i64, i16 } @total.limits(i8 %a3, i16 0)',
@@ -267,6 +303,30 @@ MODULE_EDITS = [
     ('an exported function that is not declared', 'define internal void @"total::add"', 'define void @"total::add"', 'exported, but not declared'),
 ]
 
+# Edits of the module in which the zeros of %c2 are needed, or clang is to see that they are not.
+BEGIN, WRITE, COPY = '  br i1 %c1, label %then.1', '  store i8 %p1, ptr %p2, align 1', 'ptr %c2, ptr %c0, i64 6, i1 false'
+SET = '  call void @llvm.memset.p0.i64(ptr %c2, i8 0, i64 6, i1 false)\n'
+ZERO_EDITS = [
+    ('it is read first', BEGIN, '  %x = load i8, ptr %c2, align 1\n' + BEGIN),
+    ('a part of it is read first', BEGIN, '  %x = getelementptr i8, ptr %c2, i64 1\n  %y = load i8, ptr %x, align 1\n' + BEGIN),
+    ('a part of it is written first', BEGIN, '  store i8 0, ptr %c2, align 1\n' + BEGIN),
+    ('it is copied first', BEGIN, '  call void @llvm.memmove.p0.p0.i64(ptr %c0, ptr %c2, i64 6, i1 false)\n' + BEGIN),
+    ('its address is written', BEGIN, '  %x = alloca ptr, align 8\n  store ptr %c2, ptr %x, align 8\n' + BEGIN),
+    ('one way does not write it', '  call void @llvm.memmove.p0.p0.i64(' + COPY + ')\n', ''),
+    ('a part of it is copied over', COPY, 'ptr %c2, ptr %c0, i64 5, i1 false'),
+    ('a length that is not known is copied over', COPY, 'ptr %c2, ptr %c0, i64 %c4, i1 false'),
+    ('it is copied over itself', COPY, 'ptr %c2, ptr %c2, i64 6, i1 false'),
+    ('it is written before', SET, '  call void @llvm.memmove.p0.p0.i64(' + COPY + ')\n' + SET),
+    ('a function reads what it is to write', WRITE, '  %x = load i8, ptr %p0, align 1\n' + WRITE),
+    ('a function writes another length', 'ptr %p0, ptr %p2, i64 6', 'ptr %p0, ptr %p2, i64 5'),
+    ('a function writes two lengths', WRITE, '  call void @llvm.memmove.p0.p0.i64(ptr %p0, ptr %p2, i64 5, i1 false)\n' + WRITE),
+    ('a function can return without writing', WRITE, '  br i1 true, label %no.1, label %yes.2\n\nno.1:\n  ret void\n\nyes.2:\n' + WRITE),
+    ('a function is given a part of it', 'ptr %c2, i8 7', 'ptr %c2.part, i8 7'),
+    ('a part of it is set to zero', 'ptr %c2, i8 0, i64 6', 'ptr %c2, i8 0, i64 5'),
+    ('it is set to another number', 'ptr %c2, i8 0, i64 6', 'ptr %c2, i8 1, i64 6'),
+    ('it is set to zero where the function has begun', SET, ''),
+]
+
 # Edits of the header that must be refused.
 HEADER_EDITS = [
     ('lengths of 64 bits', 'size_t length', 'uint64_t length', 'the header declares'),
@@ -337,6 +397,22 @@ def test_refusals():
     return len(MODULE_EDITS) + len(HEADER_EDITS) + len(TARGET_EDITS) + 1
 
 
+def test_zeros():
+    begun = '\nthen.1:                                           ; preds = %start\n  call void @"total::pair"'
+    for name, old, new in ZERO_EDITS:
+        module = edited(name, MODULE, old, new)
+        if name == 'a function is given a part of it':
+            module = edited(name, module, BEGIN, '  %c2.part = getelementptr i8, ptr %c2, i64 0\n' + BEGIN)
+        if name == 'a length that is not known is copied over':
+            module = edited(name, module, BEGIN, '  %c4 = zext i1 %c1 to i64\n' + BEGIN)
+        if not new:
+            module = module if old != SET else edited(name, module, begun, begun.replace('  call', SET + '  call'))
+        lines = made(module, HEADER, TARGET).splitlines()
+        if not any(line.startswith('  call void @llvm.memset.p0.i64(ptr %c2, ') for line in lines):
+            wrong.append(f'{name}: its zeros are gone')
+    return len(ZERO_EDITS)
+
+
 def test_calls(module, header):
     """The module of the C calls is taken, and each line that is not of the new forms is left as it was but for its names."""
     with open(module, encoding='utf-8') as file:
@@ -355,10 +431,11 @@ def main():
         sys.exit(__doc__)
     test_result()
     refused = test_refusals()
+    needed = test_zeros()
     test_calls(*sys.argv[1:])
     if wrong:
         sys.exit('\n'.join(wrong))
-    print(f'retarget: a module of every form as it must be, {refused} wrong ones refused, the module of the C calls taken')
+    print(f'retarget: a module of every form as it must be, {refused} wrong ones refused, zeros kept in {needed}, the module of the C calls taken')
 
 
 if __name__ == '__main__':
