@@ -5,10 +5,10 @@
 # mutations of the code, and of the programs: how they are called, the drill, the explanation and the replay of recorded moves against
 # independent ones, the drill's picture. A line for each test; target/tests has what it said.
 #
-# Usage: run.sh [BEGAN]. What has changed is proved and built first. But where rt ci passed since the file BEGAN was written, what it built is taken.
+# Usage: run.sh [SINCE]. What has changed is proved and built first. But where rt ci passed since the file SINCE was written, what it built is taken.
 set -eu
-began=${1:-}
-case $began in "" | /*) ;; *) began=$PWD/$began ;; esac
+since=${1:-}
+case $since in "" | /*) ;; *) since=$PWD/$since ;; esac
 cd "$(dirname "$0")/../.."
 . tests/gate/try.sh
 out=target/c
@@ -53,7 +53,7 @@ compare_long() {
 
 test_calls() {
     # The crates of C calls are proved with their archive; their modules are kept for the controllers.
-    try archive sh firmware/module.sh ${began:+"$began"}
+    try archive sh firmware/module.sh ${since:+"$since"}
     try symbols sh tests/c/symbols.sh $archive include/cxpi.h
     echo 'int main(void) { return 0; }' > $out/probe.c
     for compiler in gcc clang; do
@@ -136,8 +136,8 @@ test_documents_and_programs() {
 programs() {
     mkdir -p target/bin
     for program in drill why replay test_states show; do
-        if [ -n "$began" ]; then
-            find crates/$program/out/$program -newer "$began" | grep -q . || { echo "rt ci did not build $program"; exit 1; }
+        if [ -n "$since" ]; then
+            find crates/$program/out/$program -newer "$since" | grep -q . || { echo "rt ci did not build $program"; exit 1; }
             cp crates/$program/out/$program target/bin
         else
             sh tools/prove $program
