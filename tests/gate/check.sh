@@ -123,7 +123,8 @@ prints < wanted
 echo "    . s  picture: as the picture stored" | diff - others >&2 || fails "does not run both lists"
 keeps_log
 printf 'a group of checks\n3 checks, 0 wrong\n' | cmp - target/tests/exports.log >&2 || fails "a test's log is not kept"
-[ target/ci.log -nt target/ci.began ] || fails "does not say when rt ci began"
+# Files that are written within a few milliseconds can have one time.
+[ -f target/ci.began ] && ! [ target/ci.began -nt target/ci.log ] || fails "does not say when rt ci began"
 [ -f kept ] || fails "removes a file"
 
 cat > bus_fails << 'END'
