@@ -1,4 +1,5 @@
-"""Each wrong edit of the code, tests/mutations/CRATE/NAME.edit, must make a test program print something else than it has stored.
+"""Each wrong edit of the code, tests/mutations/CRATE/NAME.edit, must make a test program print something else than it has stored, or stop at
+a fault.
 
 Nothing is proved here: `rt try` builds a program and runs it. But code and definition are proved equal, so a case that refuses the wrong code
 would refuse the same change of the definition too. An edit has the form of a must-fail edit (CONTRIBUTING.md), of the crate's src/ alone, and a
@@ -16,6 +17,7 @@ import sys
 import tempfile
 
 SECONDS = 300  # of a program at most
+FAULT = 4  # the status of a try that stopped at an index out of bounds or the like
 
 
 class Wrong(Exception):
@@ -59,13 +61,13 @@ def bytes_of(path):
 
 
 def run(rt, top, program):
-    """Whether a program that is not proved ended with status 0, whether it printed what it has stored, and what was said of it."""
+    """The status of a program that is not proved, whether it printed what it has stored, and what was said of it."""
     crate = os.path.join(top, "crates", program)
     data = sorted(os.path.basename(path) for path in glob.glob(os.path.join(crate, "data", "*")))
     words = [word for name in data for word in ("--data", "%s=data/%s" % (name, name))]
     done = subprocess.run([rt, "try", "--seconds", str(SECONDS), *words, "--", *lines_of(os.path.join(crate, "args"))], cwd=crate,
                           input=bytes_of(os.path.join(crate, "stdin")), stdout=subprocess.PIPE, stderr=subprocess.PIPE)
-    return done.returncode == 0, done.stdout == bytes_of(os.path.join(crate, "stdout")), done.stderr.decode(errors="replace")
+    return done.returncode, done.stdout == bytes_of(os.path.join(crate, "stdout")), done.stderr.decode(errors="replace")
 
 
 def change(top, changes):
@@ -84,22 +86,22 @@ def judge(rt, top, program, changes):
     kept = {file: open(os.path.join(top, file)).read() for file, _, _ in changes}
     try:
         change(top, changes)
-        ended, as_stored, said = run(rt, top, program)
+        status, as_stored, said = run(rt, top, program)
     except (Wrong, OSError) as reason:
         return str(reason)
     finally:
         for file, text in kept.items():
             with open(os.path.join(top, file), "w") as source:
                 source.write(text)
-    if not ended:
+    if status not in (0, FAULT):
         return "%s did not run:\n%s" % (program, said)
     return "%s prints what it has stored" % program if as_stored else None
 
 
 def judge_stored(rt, top, program):
     """The same of a program without an edit, which prints what it has stored."""
-    ended, as_stored, said = run(rt, top, program)
-    return None if ended and as_stored else "%s without an edit:\n%s" % (program, said)
+    status, as_stored, said = run(rt, top, program)
+    return None if status == 0 and as_stored else "%s without an edit:\n%s" % (program, said)
 
 
 def main():

@@ -7,10 +7,11 @@ import tempfile
 
 RUN = os.path.abspath(os.path.join(os.path.dirname(__file__), "run.py"))
 SOURCE = "let limit = 3;\nlet room = 8;\n"
-# By the source: 4 is printed, 2 is not compiled, 1 ends otherwise; anything else is as stored, the input and the arguments with their files.
+# By the source: 4 is printed, 6 stops at a fault, 2 is not compiled, 1 ends otherwise; anything else is as stored, the input and the arguments with their files.
 RT = """#!/bin/sh
 case $(cat src/lib.rt) in
 *"limit = 4"*) echo 4; exit 0 ;;
+*"limit = 6"*) echo 3; exit 4 ;;
 *"limit = 2"*) echo "the front end rejected the crate" >&2; exit 2 ;;
 *"limit = 1"*) echo "killed" >&2; exit 6 ;;
 esac
@@ -47,8 +48,9 @@ def edit(new, old="let limit = 3;", program="program: part\n"):
 
 def main():
     missed = []
-    if tried(edit("let limit = 4;")) != (0, "1 edits of the code, each shown by a stored case\n"):
-        missed.append("an edit that a case shows")
+    for number in (4, 6):
+        if tried(edit("let limit = %d;" % number)) != (0, "1 edits of the code, each shown by a stored case\n"):
+            missed.append("an edit that a case shows, %d" % number)
     failing = [("none", "", "no edit"), ("as stored", edit("let limit = 5;"), "prints what it has stored"),
                ("not compiled", edit("let limit = 2;"), "did not run"), ("does not end", edit("let limit = 1;"), "did not run"),
                ("not there", edit("let limit = 4;", "let limits = 3;"), "is 0 times"), ("twice", edit("var", "let"), "is 2 times"),
@@ -60,7 +62,7 @@ def main():
     missed += [] if status == 1 and "part without an edit" in output else ["a program that fails without an edit"]
     for name in missed:
         print("not refused:", name)
-    print("an edit that a case shows passes, %d others are refused" % (len(failing) + 1))
+    print("edits that a case shows pass, by the output and by a fault, %d others are refused" % (len(failing) + 1))
     sys.exit(bool(missed))
 
 
