@@ -22,9 +22,12 @@ links() {
     done
 }
 
-# A view of the toolchain in which clang is a script that keeps what it is given and then runs the kit's own.
+# A view of the toolchain in which clang is a script that keeps what it is given and then runs the kit's own. It goes at the end, however that
+# comes: rt ci takes no folder with links in it.
 view=$out/toolchain
 rm -rf "$view"
+trap 'rm -rf "$view"' EXIT
+trap 'exit 1' HUP INT TERM
 links "$toolchain" "$view" bin
 links "$toolchain/bin" "$view/bin" clang
 cat > "$view/bin/clang" << END_OF_SCRIPT

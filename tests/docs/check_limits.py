@@ -13,7 +13,7 @@ NUMBER = r"(\d+)(?![\w.])"
 FOLDED = r"\((?:[^()]|\([^()]*\))*\)|\S+"  # what a fold is over: a name, or a term in brackets
 # where each kind of source says a length or a bound
 BOUNDS = {
-    ".rt": [r";\s*" + NUMBER + r"\s*\]", r"\bwhile\b[^{]*?<=?\s*\(?" + NUMBER],
+    ".rt": [r";\s*" + NUMBER + r"\s*\]", r"\bwhile\b[^{]*?<=?\s*\(?" + NUMBER, r"\.\.=?\s*\(?" + NUMBER],
     ".antt": [r"\b(?:tab|replicate)\s+" + NUMBER, r"\b(?:all_to|any_to|first_to|sum_to)\s+(?:" + FOLDED + r")\s+" + NUMBER],
     ".c": [r"^\s*(?:\w[\w *]*[ *]|.*, \*?)\w+(?:\[\w+\])*\[" + NUMBER + r"\]", r"\bfor \([^;]*;[^;]*<=?\s*" + NUMBER],
 }

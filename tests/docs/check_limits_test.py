@@ -8,11 +8,11 @@ from check_limits import limits, read_file, wrong_in
 
 # A source, a text of it that occurs there, what it becomes, and the name that is then missed.
 WRITTEN = [
-    # arrays: a type, a value; a loop, and one with a cast
+    # arrays: a type, a value; a loop, and a range
     ("crates/machine_master/src/lib.rt", "[Hold; Plan::NODES]", "[Hold; 16]", "NODES"),
     ("crates/machine_master/src/ticks.rt", "[Master::NO_COUNT; Row::REQIDS]", "[Master::NO_COUNT; 128]", "REQIDS"),
-    ("crates/machine_state/src/lib.rt", "while i < Row::REQIDS", "while i < 128", "REQIDS"),
-    ("crates/set_record/src/unpacking.rt", "while j < (Plan::ROWS as u32)", "while j < (127 as u32)", "ROWS"),
+    ("crates/machine_master/src/causes.rt", "in 0..Plan::NODES", "in 0..16", "NODES"),
+    ("crates/set_record/src/rules.rt", "(1..=Plan::ROWS)", "(1..=127)", "ROWS"),
     # definitions: a list, equal elements, a test of each
     ("crates/machine_master/specs/Ticks.antt", "tab max_nodes", "tab 16", "max_nodes"),
     ("crates/machine_master/specs/Changes.antt", "replicate reqids", "replicate 128", "reqids"),

@@ -419,7 +419,7 @@ def test_calls(module, header):
         before = file.read()
     with open(header, encoding='utf-8') as file:
         after = made(before, file.read(), TARGET).splitlines()
-    kept = {re.sub(r'@"([^"]+)"', lambda name: '@' + name[1].replace('::', '.'), line) for line in retarget.read_lines(before)}
+    kept = {re.sub(r'@"([\w:]+)"', lambda name: '@' + name[1].replace('::', '.'), line) for line in retarget.read_lines(before)}
     new = [line for line in after if line not in kept and not line.startswith(('define ', 'target ', 'attributes #0 '))]
     parts = re.compile(r'  %[\w.]+ = (?:getelementptr i8, ptr %\w+, i64 \d+|load i\d+, ptr %\w+\.at\d+, align \d+|insertvalue {[^}]*} (?:poison|%[\w.]+), i\d+ %\w+\.part\d+, \d+)')
     if any('= alloca [8 x i8], align' not in line and '.length to i64' not in line and not parts.fullmatch(line) for line in new):

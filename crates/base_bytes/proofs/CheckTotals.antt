@@ -52,3 +52,20 @@ module _ (s : List ℕ) (start : ℕ) where
     -- the totals are at most those of bytes of 255
     pub check_most : (n : ℕ) → n ≤ 510 → (running_total s start n ≤ 130050) × (total_of_totals s start n ≤ 33227775)
     check_most n h = omega (arith, total_most n, totals_most n, mul-le-mul {n₁ = n} {m₁ = n + 1} {n₂ = 510} {m₂ = 511} h (omega arith))
+
+-- byte i - 1 gives both totals of its line, which fit 32 bits
+pub record Line (s : List ℕ) (start i : ℕ) : Type 0 where
+  pub total : running_total s start (510 - (i - 1)) ≡ running_total s start (510 - i) + byte s (start + (i - 1))
+  pub totals : total_of_totals s start (510 - (i - 1)) ≡ total_of_totals s start (510 - i) + running_total s start (510 - (i - 1))
+  pub most : (running_total s start (510 - (i - 1)) ≤ 130050) × (total_of_totals s start (510 - (i - 1)) ≤ 33227775)
+
+pub line_of : (s : List ℕ) (start : ℕ) → ((o : ℕ) → byte s o < 256) → (i : ℕ) → 0 < i → i ≤ 510 → Line s start i
+line_of s start small i p q =
+    let e : 510 - (i - 1) ≡ 510 - i + 1 = omega arith in
+    let d : 509 - (510 - i) ≡ i - 1 = omega arith in
+    let next = rw d at (total_next s start (510 - i)) in
+    record {
+      total = rw e next;
+      totals = rw e (totals_next s start (510 - i));
+      most = rw e (check_most s start small (510 - i + 1) (omega arith));
+    }

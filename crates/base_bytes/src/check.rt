@@ -12,10 +12,9 @@ pub fn block_check(bytes: &[u8], start: usize) -> u16
 {
     let mut total: u32 = 0;
     let mut totals: u32 = 0;
-    let mut i = bytes::reach(bytes.len(), start, 510) as u32;
-    while i > 0 {
-        i -= 1;
-        let byte = bytes[start + i as usize] as u32;
+    let within = bytes::reach(bytes.len(), start, 510) as u32;
+    for i in (0..within).rev() {
+        let byte = u32::from(bytes[start + i as usize]);
         total += byte;
         totals += total;
     }

@@ -5,3 +5,4 @@ pub mod Rules
 pub mod Stores
 pub mod Sums
 pub mod Tables
+pub mod Made

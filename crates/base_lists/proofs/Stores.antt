@@ -1,9 +1,10 @@
 -- Laws of a list stored into another from an index on (`sets`): a store past the end changes nothing.
 use Prim.Native.Nat.{ℕ, suc, ◌+◌, ◌≤◌, ◌<◌}
 use mathlib.Core.Path.{◌≡◌, refl, ap, sym, ◌∙◌}
-use mathlib.Core.List.{List, [], ◌∷◌, ◌++◌}
+use mathlib.Core.List.{List, [], ◌∷◌, ◌++◌, append_assoc}
 use lib.ListN.{length, get_or, set, take, drop, take-append-drop}
-use lib.Seq.{sets, set_out, take-suc, take_all, length-take-le, length-sets}
+use lib.Seq.{sets, sets-eq, set_out, take-suc, take_all, length-take-le, length-sets, drop-drop}
+use borrow.Rule.Slice.PartMut.{put_mid}
 use native.Mathlib.Omega.{arith}
 use native.Mathlib.Numerals.{add-one}
 use native.Mathlib.Decide.{dec_lt}
@@ -29,6 +30,12 @@ module _ {A : Type 0} where
       ∙ sets-append (take i a) (get_or a i d ∷ []) l at
       ∙ ap (sets l at) (sym (take-suc a i d p) ∙ ap (λ k. take k a) (sym (add-one i)))
 
+  -- a part that was written whole
+  pub sets_part : (a l : List A) (at k : ℕ) → length a ≡ k → at + k ≤ length l → put_mid at k l a ≡ sets l at a
+  sets_part a l at k e h =
+      let z : at + length a ≤ length l = omega arith in
+      rw (sets-eq a l at z, e, drop-drop k at l) (sym (append_assoc (take at l) a (drop (at + k) l)))
+
   -- the elements that lie past the end of the other list may be left out
   pub sets_reach : (a l : List A) (at m : ℕ) → m ≤ length a → (m < length a → length l ≤ at + m) → sets l at (take m a) ≡ sets l at a
   sets_reach a l at m p q = go (dec_lt m (length a))
@@ -42,3 +49,8 @@ module _ {A : Type 0} where
           = sets_out (drop m a) (sets l at (take m a)) (at + m) (omega (arith, length-sets l at (take m a))) in
           sym rest ∙ ap (λ k. sets (sets l at (take m a)) (at + k) (drop m a)) (sym e)
           ∙ sets-append (take m a) (drop m a) l at ∙ ap (sets l at) (take-append-drop m a)
+
+  -- as much of a list as finds room, written whole
+  pub sets_front : (a l p : List A) (at m k : ℕ) → k ≡ m → p ≡ take m a → m ≤ length a → at + m ≤ length l
+      → (m < length a → length l ≤ at + m) → put_mid at k l p ≡ sets l at a
+  sets_front a l p at m k e w q room out = rw (e, w) (sets_part (take m a) l at m (length-take-le m a q) room ∙ sets_reach a l at m q out)

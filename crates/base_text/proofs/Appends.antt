@@ -1,36 +1,55 @@
--- Laws of texts appended to a buffer one after the other.
-use Prim.Native.Nat.{ℕ, ◌+◌, ◌≤◌, ◌<◌, min}
-use mathlib.Core.Path.{◌≡◌, refl, ap, sym, ◌∙◌}
-use mathlib.Core.List.{List, [], ◌++◌}
+-- Laws of texts written to a buffer one after the other.
+use Prim.Native.Nat.{ℕ, ◌+◌, ◌≤◌, ◌<◌, min, max}
+use mathlib.Core.Path.{◌≡◌, refl, ap, ap₂, sym, ◌∙◌}
+use mathlib.Core.List.{List, [], ◌∷◌, ◌++◌}
 use lib.ListN.{length, length-append}
 use lib.Seq.{sets, length-sets}
 use native.Mathlib.Omega.{arith}
 use native.Mathlib.Decide.{dec_lt}
 use Rattle.base_lists.proofs.Stores.{sets-append, sets_out}
-use Rattle.base_text.specs.Text.{Appended, Shown, largest}
+use Rattle.base_text.specs.Text.{Appended, wrote, largest}
+use Rattle.base_text.specs.declared.Writer.{Writer}
 
-pub appended_none : (at : ℕ) (l : List ℕ) → at ≤ largest → Appended at [] l l at
-appended_none at l p = record { next = omega arith; bytes = refl }
+-- what a writer holds is appended: no index and no buffer is longer than the largest index
+pub wrote_appended : (text : List ℕ) (w : Writer) → w.at ≤ largest → length w.buffer.now ≤ largest
+    → Appended w.at text w.buffer.now (wrote text w).buffer.now (wrote text w).at
+unfolding wrote
+wrote_appended text w p q = record { next = omega arith; bytes = refl }
 
--- a text, then another
-pub appended_then : {at : ℕ} {a b l m o : List ℕ} {r q : ℕ} → length l ≤ largest → Appended at a l m r → Appended r b m o q → Appended at (a ++ b) l o q
-appended_then {at} {a} {b} {l} {m} {o} {r} {q} fits v w =
-    record {
-      next = omega (arith, v.next, w.next, length-append a b);
-      bytes = w.bytes ∙ ap (λ x. sets x r b) v.bytes ∙ go (dec_lt (at + length a) largest);
-    }
+-- no text
+pub wrote_none : (w : Writer) → wrote [] w ≡ w
+unfolding wrote
+wrote_none w =
+    let f : min (w.at + 0) (max largest (max w.at (length w.buffer.now))) ≡ w.at = omega arith in
+    ap (λ (n : ℕ). record { buffer = w.buffer; at = n }) f
+
+-- a text is written as its parts are, one after the other
+pub wrote_append : (a b : List ℕ) (w : Writer) → wrote (a ++ b) w ≡ wrote b (wrote a w)
+unfolding wrote
+wrote_append a b w =
+    let f : min (w.at + length (a ++ b)) (max largest (max w.at (length l))) ≡ min (next + length b) (max largest (max next (length (sets l w.at a)))) =
+    omega (arith, length-append a b, length-sets l w.at a) in
+    ap₂ (λ (m : List ℕ) (n : ℕ). record { buffer = record w.buffer { now = m }; at = n }) (go (dec_lt (w.at + length a) (length l))) f
   where
-    go : Dec (at + length a < largest) → sets (sets l at a) r b ≡ sets l at (a ++ b)
-    go (yes p) = let e : r ≡ at + length a = omega (arith, v.next) in ap (λ k. sets (sets l at a) k b) e ∙ sets-append a b l at
+    l : List ℕ
+    l = w.buffer.now
+
+    next : ℕ
+    next = min (w.at + length a) (max largest (max w.at (length l)))
+
+    go : Dec (w.at + length a < length l) → sets l w.at (a ++ b) ≡ sets (sets l w.at a) next b
+    go (yes p) = let e : next ≡ w.at + length a = omega arith in rw e (sym (sets-append a b l w.at))
     go (no p) =
-        let past : length (sets l at a) ≤ r = omega (arith, v.next, length-sets l at a) in
-        let far : length (sets l at a) ≤ at + length a = omega (arith, length-sets l at a) in
-        sets_out b (sets l at a) r past ∙ sym (sets_out b (sets l at a) (at + length a) far) ∙ sets-append a b l at
+        let past : length (sets l w.at a) ≤ next = omega (arith, length-sets l w.at a) in
+        let far : length (sets l w.at a) ≤ w.at + length a = omega (arith, length-sets l w.at a) in
+        sym (sets_out b (sets l w.at a) next past ∙ sym (sets_out b (sets l w.at a) (w.at + length a) far) ∙ sets-append a b l w.at)
 
--- the same text under another name
-pub appended_as : {at : ℕ} {a b l m : List ℕ} {r : ℕ} → a ≡ b → Appended at a l m r → Appended at b l m r
-appended_as {at} {a} {b} {l} {m} {r} e w = record { next = w.next ∙ ap (λ x. min (at + length x) largest) e; bytes = w.bytes ∙ ap (sets l at) e }
+-- a text, then another, by what each left
+pub wrote_then : (w : Writer) (a b : List ℕ) {m o : Writer} → m ≡ wrote a w → o ≡ wrote b m → o ≡ wrote (a ++ b) w
+wrote_then w a b v t = t ∙ ap (wrote b) v ∙ sym (wrote_append a b w)
 
--- what was appended at the front, of which r bytes lie in the buffer
-pub shown : {text l l' : List ℕ} {end r : ℕ} → length l ≤ largest → Appended 0 text l l' end → r ≡ min end (length l') → Shown text l l' r
-shown {text} {l} fits w e = record { count = omega (arith, w.next, e, ap length w.bytes ∙ length-sets l 0 text); bytes = w.bytes }
+-- a quoted text computes to its bytes, and goes byte by byte
+pub wrote_cons : (x : ℕ) (a : List ℕ) (w : Writer) → wrote (x ∷ a) w ≡ wrote a (wrote (x ∷ []) w)
+wrote_cons x a w = wrote_append (x ∷ []) a w
+
+pub ruleset writing = (wrote_none, wrote_append, wrote_cons)

@@ -9,28 +9,25 @@ use native.Mathlib.Decide.{dec_lt}
 use native.Mathlib.Nat.{pow-suc}
 use borrow.Author.Tests.{lt-ltb, le-ltb}
 use Rattle.base_lists.proofs.Choices.{by_test}
-use Rattle.base_text.specs.Text.{digits_in, most_digits, decimal, largest, Appended}
-use Rattle.base_text.proofs.Appends.{appended_none, appended_then, appended_as}
+use Rattle.base_text.specs.Text.{digits_in, most_digits, decimal}
 
--- no place, a last digit, one digit more: the three ends of the function that appends them
-pub digits_none : (at places n : ℕ) (l : List ℕ) → at ≤ largest → places ≡ 0 → Appended at (digits_in places n) l l at
+-- no place, a last digit, one digit more: the three ends of the function that writes them
+pub digits_none : (places n : ℕ) → places ≡ 0 → digits_in places n ≡ []
 unfolding digits_in
-digits_none at zero n l p e = appended_none at l p
-digits_none at (suc k) n l p e = absurd (omega arith)
+digits_none zero n e = refl
+digits_none (suc k) n e = absurd (omega arith)
 
-pub digits_last : (at places n r : ℕ) (l m : List ℕ) → (places ≡ 0 → ⊥) → n < 10 → Appended at ((48 + n) ∷ []) l m r → Appended at (digits_in places n) l m r
+pub digits_last : (places n : ℕ) → (places ≡ 0 → ⊥) → n < 10 → digits_in places n ≡ (48 + n) ∷ []
 unfolding digits_in
-digits_last at zero n r l m e p w = absurd (e refl)
-digits_last at (suc k) n r l m e p w = appended_as (rw (lt-ltb n 10 p)) w
+digits_last zero n e p = absurd (e refl)
+digits_last (suc k) n e p = rw (lt-ltb n 10 p)
 
-pub digits_more : (at places n r q : ℕ) (l m o : List ℕ) → length l ≤ largest → (places ≡ 0 → ⊥) → 10 ≤ n
-    → Appended at (digits_in (places - 1) (n / 10)) l m r → Appended r ((48 + n % 10) ∷ []) m o q → Appended at (digits_in places n) l o q
+pub digits_more : (places n : ℕ) → (places ≡ 0 → ⊥) → 10 ≤ n → digits_in places n ≡ digits_in (places - 1) (n / 10) ++ ((48 + n % 10) ∷ [])
 unfolding digits_in
-digits_more at zero n r q l m o fits e p v w = absurd (e refl)
-digits_more at (suc k) n r q l m o fits e p v w =
-    let z : suc k - 1 ≡ k = omega arith in
-    let f : digits_in (suc k - 1) (n / 10) ++ ((48 + n % 10) ∷ []) ≡ digits_in (suc k) n = rw (z, le-ltb n 10 p) in
-    appended_as f (appended_then fits v w)
+digits_more zero n e p = absurd (e refl)
+digits_more (suc k) n e p = let z : suc k - 1 ≡ k = omega arith in rw (z, le-ltb n 10 p)
+
+pub ruleset digits_ends = (digits_none, digits_last, digits_more)
 
 digits_short : (places n : ℕ) → length (digits_in places n) ≤ places
 unfolding digits_in

@@ -1,10 +1,11 @@
 -- Texts as lists of bytes, and a text appended to a buffer.
-use Rattle.std.specs.Prelude.{ℕ, zero, suc, ◌+◌, ◌/◌, ◌%◌, ◌≤◌, min, ◌≡◌, List, [], ◌∷◌, ◌++◌, Bool, true, false, ◌&&◌, ltb, eqb, length, take}
+use Rattle.std.specs.Prelude.{ℕ, zero, suc, ◌+◌, ◌/◌, ◌%◌, ◌≤◌, min, max, ◌≡◌, List, [], ◌∷◌, ◌++◌, Bool, true, false, ◌&&◌, ltb, eqb, length, take}
 use Prim.Native.Char.{code}
 use Prim.Native.String.{String}
 use Prim.Native.String as quoted
 use Rattle.std.proofs.lemmas.List.Edits.{sets}
 use Rattle.base_lists.specs.Bounded.{if_else}
+use Rattle.base_text.specs.declared.Writer.{Writer}
 
 -- the bytes of a quoted text of ASCII characters
 abbrev pub ascii : String → List ℕ
@@ -46,6 +47,14 @@ largest = 18446744073709551615
 pub record Appended (at : ℕ) (text l l' : List ℕ) (r : ℕ) : Type 0 where
   pub next : r ≡ min (at + length text) largest
   pub bytes : l' ≡ sets l at text
+
+-- a writer that got a text more, as Appended has it: neither the index before nor the buffer is longer than the largest index
+unfoldable pub wrote : List ℕ → Writer → Writer
+wrote text w =
+    record {
+      buffer = record w.buffer { now = sets w.buffer.now w.at text };
+      at = min (w.at + length text) (max largest (max w.at (length w.buffer.now)));
+    }
 
 -- the text stands at the front of the buffer l, which is then l', as far as there is room; r bytes of it do
 pub record Shown (text l l' : List ℕ) (r : ℕ) : Type 0 where

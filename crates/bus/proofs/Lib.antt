@@ -1,3 +1,1 @@
 mod Lengths
-mod Publishing
-mod Ticking

@@ -1,9 +1,8 @@
 -- Requests, answers and the sleep message on the bus.
-use Rattle.std.specs.Prelude.{ℕ, Bool, true, false, not, ◌&&◌, List, leb, ltb, eqb, get_or, set}
+use Rattle.std.specs.Prelude.{ℕ, Bool, true, false, not, ◌&&◌, List, leb, ltb, eqb, get_or, set, Option, Some, None}
 use Rattle.base_lists.specs.Bounded.{if_else}
 use Rattle.machine_state.specs.declared.State.{State}
 use Rattle.machine_state.specs.State.{is_normal}
-use Rattle.set_plan.specs.declared.Lookup.{Lookup}
 use Rattle.set_plan.specs.declared.Plan.{Plan}
 use Rattle.set_plan.specs.declared.Row.{Row}
 use Rattle.set_plan.specs.Limits.{reqids, seq_counts}
@@ -20,7 +19,6 @@ use Rattle.machine_master.specs.declared.Reply as MasterReply
 use Rattle.machine_master.specs.Answers.{answer_step}
 use Rattle.machine_master.specs.Sleeping.{sleep_ask_step, send_result_step}
 use Rattle.bus.specs.declared.Bus.{Bus}
-use Rattle.bus.specs.declared.Arrival.{Arrival}
 use Rattle.bus.specs.declared.Delivered.{Delivered}
 use Rattle.bus.specs.declared.Fate.{Fate}
 use Rattle.bus_nodes.specs.declared.Message.{Message}
@@ -48,15 +46,14 @@ abbrev pub sent_length : Row → ℕ → ℕ
 sent_length row length = if_else (is_variable row && leb length row.length) length row.length
 
 -- "an answer reaches the master whole, damaged .. or not at all"
-abbrev pub carried : Fate → Row → NodeCommand.Command → Arrival
-carried fate row NodeCommand.Command.Nothing = Arrival.Nothing
-carried fate row NodeCommand.Command.Pulse = Arrival.Nothing
+abbrev pub carried : Fate → Row → NodeCommand.Command → Option (Row × Answer)
+carried fate row NodeCommand.Command.Nothing = None
+carried fate row NodeCommand.Command.Pulse = None
 carried (Fate.Whole length) row (NodeCommand.Command.Send permission wake count) =
-    Arrival.Answer row (record { reqid = row.reqid; result = 0; length = sent_length row length; count = count; permission = permission; wake = wake })
+    Some (row, record { reqid = row.reqid; result = 0; length = sent_length row length; count = count; permission = permission; wake = wake })
 carried (Fate.Damaged damage) row (NodeCommand.Command.Send permission wake count) =
-    Arrival.Answer row
-    (record { reqid = row.reqid; result = damage.result; length = damage.length; count = damage.count; permission = damage.permission; wake = damage.wake })
-carried Fate.Lost row (NodeCommand.Command.Send permission wake count) = Arrival.Nothing
+    Some (row, record { reqid = row.reqid; result = damage.result; length = damage.length; count = damage.count; permission = damage.permission; wake = damage.wake })
+carried Fate.Lost row (NodeCommand.Command.Send permission wake count) = None
 
 -- nothing reaches the master
 abbrev pub unanswered : Master → ℕ → Delivered
@@ -65,9 +62,9 @@ unanswered m refusal = record { master = m; refusal = refusal; passed = nothing 
 abbrev pub answered_by : Row → Answer → MasterReply.Reply → Delivered
 answered_by row a reply = record { master = reply.master; refusal = reply.refusal; passed = answered row a }
 
-abbrev pub arrive : Master → Arrival → Delivered
-arrive m Arrival.Nothing = unanswered m 0
-arrive m (Arrival.Answer row a) = answered_by row a (answer_step (Lookup.Found row) a m)
+abbrev pub arrive : Master → Option (Row × Answer) → Delivered
+arrive m None = unanswered m 0
+arrive m (Some (row, a)) = answered_by row a (answer_step (Some row) a m)
 
 -- a publisher's reply goes on to the master: "The refusal .. is the acting or publishing machine's, else the master's"
 abbrev pub deliver : Row → Fate → NodeReply.Reply → Master → Delivered
@@ -81,20 +78,20 @@ delivered_in nodes d = record { world = record { master = d.master; nodes = node
 abbrev pub request_by : ℕ → Row → Bus → World → NodeReply.Reply → Moved
 request_by count row bus w reply =
     delivered_in
-    (reach_all (Message.Request (Lookup.Found row)) (set bus.reached row.publisher false) count (set w.nodes row.publisher reply.node))
+    (reach_all (Message.Request (Some row)) (set bus.reached row.publisher false) count (set w.nodes row.publisher reply.node))
     (deliver row bus.fate reply w.master)
 
 -- "A request reaches any set of nodes"; "A master's row .. is heard and brings no answer"
 abbrev pub publish : ℕ → Row → Bus → World → Moved
 publish count row bus w =
     if_else (ltb row.publisher count && get_or bus.reached row.publisher false)
-    (request_by count row bus w (request_step row.publisher (Lookup.Found row) (node_at w.nodes row.publisher)))
-    (stays (with_nodes (reach_all (Message.Request (Lookup.Found row)) bus.reached count w.nodes) w) 0)
+    (request_by count row bus w (request_step row.publisher (Some row) (node_at w.nodes row.publisher)))
+    (stays (with_nodes (reach_all (Message.Request (Some row)) bus.reached count w.nodes) w) 0)
 
 -- "then a ReqId not in the plan gives 12"
-abbrev pub publish_found : ℕ → Bus → World → Lookup → Moved
-publish_found count bus w Lookup.Missing = stays w 12
-publish_found count bus w (Lookup.Found row) = publish count row bus w
+abbrev pub publish_found : ℕ → Bus → World → Option Row → Moved
+publish_found count bus w None = stays w 12
+publish_found count bus w (Some row) = publish count row bus w
 
 abbrev pub judged_message : ℕ → World → Moved → Moved
 judged_message refusal w o = if_else (not (eqb refusal 0)) (stays w refusal) o
@@ -107,11 +104,11 @@ sent_by node row fate w reply = delivered_in (set w.nodes node reply.node) (deli
 
 -- a node's own sending of a row, which no other node hears
 abbrev pub send_row : ℕ → Bool → Row → Fate → World → Moved
-send_row node polled row fate w = sent_by node row fate w (send_ask_step node polled (Lookup.Found row) (node_at w.nodes node))
+send_row node polled row fate w = sent_by node row fate w (send_ask_step node polled (Some row) (node_at w.nodes node))
 
-abbrev pub send_ask_by : ℕ → Bool → Fate → World → Lookup → Moved
-send_ask_by node polled fate w Lookup.Missing = stays w 12
-send_ask_by node polled fate w (Lookup.Found row) = send_row node polled row fate w
+abbrev pub send_ask_by : ℕ → Bool → Fate → World → Option Row → Moved
+send_ask_by node polled fate w None = stays w 12
+send_ask_by node polled fate w (Some row) = send_row node polled row fate w
 
 abbrev pub send_ask_move : Plan → ℕ → ℕ → ℕ → Bus → World → Moved
 send_ask_move p count node reqid bus w =

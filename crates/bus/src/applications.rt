@@ -1,44 +1,36 @@
 // Moves of the applications: asks to wake and permissions.
-ghost use Rattle.std.specs.Prelude.{◌≡◌, ◌≤◌};
-ghost use Rattle.set_plan.specs.Limits.{max_nodes};
+ghost use Rattle.std.specs.Prelude.{◌≡◌};
+ghost use Rattle.bus_nodes.specs.Nodes.{nodes_used};
 ghost use Rattle.bus.specs.Applications.{node_wake_ask, master_wake_ask, node_permission, master_permission};
 
 use crate::{Bus, Moved, Passed, World, stays};
-use bus_nodes::{Callers, any_called, with_caller};
+use base_refusals::Refusal;
+use bus_nodes::{Callers, any_called, nodes_used, with_caller};
 
 impl World {
-    pub(crate) fn node_wake_ask(self, sleeps: bool, count: u8, node: u8, bus: Bus) -> Moved
-        requires { count ≤ max_nodes }
-        ensures { result ≡ node_wake_ask sleeps count node bus self }
+    pub(crate) fn node_wake_ask(mut self, sleeps: bool, nodecount: u8, node: u8, bus: Bus) -> Moved
+        ensures { result ≡ node_wake_ask sleeps (nodes_used nodecount) node bus self }
     {
-        if node < count {
-            let mut nodes = self.nodes;
-            let asked = nodes[node as usize];
-            let reply = asked.wake_ask(sleeps);
-            let command = reply.command;
-            let callers = with_caller(Callers::Nobody, node, command);
-            let next = reply.node;
-            nodes[node as usize] = next;
-            let world = World { nodes, ..self };
-            Moved {
-                world: world.spread(count, callers, bus),
-                refusal: reply.refusal,
-                passed: Passed::asked(any_called(callers) & bus.master),
-            }
-        } else {
-            stays(self, 11)
+        if nodes_used(nodecount) <= node {
+            return stays(self, Refusal::NoState);
+        }
+        let reply = self.nodes[node as usize].wake_ask(sleeps);
+        let callers = with_caller(Callers::Nobody, node, reply.command);
+        self.nodes[node as usize] = reply.node;
+        Moved {
+            world: self.spread(nodecount, callers, bus),
+            refusal: reply.refusal,
+            passed: Passed::asked(any_called(callers) & bus.master),
         }
     }
 
     pub(crate) fn master_wake_ask(self) -> Moved
         ensures { result ≡ master_wake_ask self }
     {
-        let master = self.master;
-        let reply = master.wake_up();
-        let next = reply.master;
+        let reply = self.master.wake_up();
         Moved {
             world: World {
-                master: next,
+                master: reply.master,
                 ..self
             },
             refusal: reply.refusal,
@@ -46,35 +38,34 @@ impl World {
         }
     }
 
-    pub(crate) fn node_permission(self, sleeps: bool, count: u8, node: u8, permitted: bool) -> Moved
-        requires { count ≤ max_nodes }
-        ensures { result ≡ node_permission sleeps count node permitted self }
+    pub(crate) fn node_permission(
+        mut self,
+        sleeps: bool,
+        nodecount: u8,
+        node: u8,
+        permitted: bool,
+    ) -> Moved
+        ensures { result ≡ node_permission sleeps (nodes_used nodecount) node permitted self }
     {
-        if node < count {
-            let mut nodes = self.nodes;
-            let told = nodes[node as usize];
-            let reply = told.permit(sleeps, permitted);
-            let next = reply.node;
-            nodes[node as usize] = next;
-            Moved {
-                world: World { nodes, ..self },
-                refusal: reply.refusal,
-                passed: Passed::node_permits(node, permitted),
-            }
-        } else {
-            stays(self, 11)
+        if nodes_used(nodecount) <= node {
+            return stays(self, Refusal::NoState);
+        }
+        let reply = self.nodes[node as usize].permit(sleeps, permitted);
+        self.nodes[node as usize] = reply.node;
+        Moved {
+            world: self,
+            refusal: reply.refusal,
+            passed: Passed::node_permits(node, permitted),
         }
     }
 
     pub(crate) fn master_permission(self, permitted: bool) -> Moved
         ensures { result ≡ master_permission permitted self }
     {
-        let master = self.master;
-        let reply = master.permit(permitted);
-        let next = reply.master;
+        let reply = self.master.permit(permitted);
         Moved {
             world: World {
-                master: next,
+                master: reply.master,
                 ..self
             },
             refusal: reply.refusal,

@@ -2,13 +2,14 @@
 #![tactic(auto)]
 
 ghost use Rattle.std.specs.Prelude.{◌≡◌};
+ghost use Rattle.base_refusals.specs.Numbers.{number};
 ghost use Rattle.bus.specs.World.{power_on, stays};
 ghost use Rattle.bus.specs.Moves.{world_act, world_step};
 
-use bus_nodes::nodes_used;
+use base_refusals::Refusal;
 use machine_master::{Answer, Master};
 use machine_node::Node;
-use set_plan::{Plan, Row, plan_refusal};
+use set_plan::{Plan, Row, judge};
 
 mod applications;
 mod messages;
@@ -85,30 +86,14 @@ pub struct Move {
 // A permission that an application gave or took back.
 #[derive(Clone, Copy)]
 pub enum PermissionChange {
-    Nobody,
     Master(bool),
     Node { node: u8, permitted: bool },
-}
-
-// What reaches the master of a node's sending.
-#[derive(Clone, Copy)]
-pub enum Arrival {
-    Nothing,
-    Answer { row: Row, answer: Answer },
-}
-
-// What became of a sleep message.
-#[derive(Clone, Copy)]
-pub enum SendResult {
-    Unknown,
-    Sent,
-    Failed,
 }
 
 // What passed in a move.
 #[derive(Clone, Copy)]
 pub struct Passed {
-    // a tick, the clock as it left it, and whether it commanded the clock off
+    // a tick, the clock as it left it, and whether it commanded the clock off; no Option: is_stop and leaves_on of bus_history read these flags
     pub tick: bool,
     pub clock: bool,
     pub stop: bool,
@@ -116,11 +101,13 @@ pub struct Passed {
     pub asked: bool,
     // a wake-up pulse reached the master, or its own application asked it to wake
     pub woken: bool,
-    pub permission: PermissionChange,
-    pub arrival: Arrival,
+    pub permission: Option<PermissionChange>,
+    // the answer that reached the master of a node's sending, with its row
+    pub arrival: Option<(Row, Answer)>,
     // a sleep message's ask was accepted
     pub sending: bool,
-    pub result: SendResult,
+    // whether a sleep message was sent, in the move of its result
+    pub result: Option<bool>,
     // the nodes that a sleep message reached
     pub slept: [bool; Plan::NODES],
 }
@@ -129,6 +116,7 @@ pub struct Passed {
 #[derive(Clone, Copy)]
 pub struct Moved {
     pub world: World,
+    // its number, 0 for none, as the machines' replies hand it back
     pub refusal: u8,
     pub passed: Passed,
 }
@@ -137,17 +125,18 @@ pub struct Moved {
 #[derive(Clone, Copy)]
 pub struct Delivered {
     pub master: Master,
+    // as in Moved
     pub refusal: u8,
     pub passed: Passed,
 }
 
 // A move that changes nothing.
-pub fn stays(world: World, refusal: u8) -> Moved
-    ensures { result ≡ stays world refusal }
+pub fn stays(world: World, refusal: Refusal) -> Moved
+    ensures { result ≡ stays world (number refusal) }
 {
     Moved {
         world,
-        refusal,
+        refusal: refusal.number(),
         passed: Passed::nothing(),
     }
 }
@@ -156,10 +145,9 @@ impl World {
     pub fn power_on(sleeps: bool) -> World
         ensures { result ≡ power_on sleeps }
     {
-        let node = Node::power_on(sleeps);
         World {
             master: Master::power_on(sleeps),
-            nodes: [node; Plan::NODES],
+            nodes: [Node::power_on(sleeps); Plan::NODES],
         }
     }
 
@@ -167,23 +155,20 @@ impl World {
     pub fn act(self, plan: Plan, movement: Move) -> Moved
         ensures { result ≡ world_act plan self movement }
     {
-        let act = movement.act;
-        let bus = movement.bus;
-        let times = plan.times;
-        let count = nodes_used(plan.nodecount);
+        let Move { act, bus } = movement;
         let sleeps = plan.sleeps();
         match act {
-            Act::Tick => self.tick(sleeps, count, times, bus),
-            Act::NodeWakeAsk(node) => self.node_wake_ask(sleeps, count, node, bus),
+            Act::Tick => self.tick(sleeps, plan.nodecount, plan.times, bus),
+            Act::NodeWakeAsk(node) => self.node_wake_ask(sleeps, plan.nodecount, node, bus),
             Act::MasterWakeAsk => self.master_wake_ask(),
             Act::NodePermission { node, permitted } => {
-                self.node_permission(sleeps, count, node, permitted)
+                self.node_permission(sleeps, plan.nodecount, node, permitted)
             }
             Act::MasterPermission(permitted) => self.master_permission(permitted),
-            Act::Request(reqid) => self.request(plan, count, reqid, bus),
-            Act::SendAsk { node, reqid } => self.send_ask(plan, count, node, reqid, bus),
+            Act::Request(reqid) => self.request(plan, reqid, bus),
+            Act::SendAsk { node, reqid } => self.send_ask(plan, node, reqid, bus),
             Act::SleepAsk => self.sleep_ask(sleeps, plan.nodecount),
-            Act::SendResult(sent) => self.send_result(count, sent, bus),
+            Act::SendResult(sent) => self.send_result(plan.nodecount, sent, bus),
         }
     }
 
@@ -191,16 +176,12 @@ impl World {
     pub fn step(self, plan: Plan, movement: Move) -> Moved
         ensures { result ≡ world_step plan self movement }
     {
-        let refusal = plan_refusal(plan);
-        if refusal == 0 {
-            let times = plan.times;
-            if self.in_range(plan.sleeps(), plan.nodecount, times) {
-                self.act(plan, movement)
-            } else {
-                stays(self, 11)
-            }
-        } else {
-            stays(self, refusal)
+        if let Err(refusal) = judge(plan) {
+            return stays(self, refusal);
         }
+        if !self.in_range(plan.sleeps(), plan.nodecount, plan.times) {
+            return stays(self, Refusal::NoState);
+        }
+        self.act(plan, movement)
     }
 }

@@ -1,38 +1,34 @@
 // Requests, answers and the sleep message.
-ghost use Rattle.std.specs.Prelude.{◌≡◌, ◌≤◌, ◌<◌};
+ghost use Rattle.std.specs.Prelude.{◌≡◌, ◌<◌};
 ghost use Rattle.set_plan.specs.Limits.{max_nodes};
-ghost use Rattle.bus.specs.Messages.{fate_right, message_refusal, sent_length, carried, unanswered, deliver, publish, request_move, send_row, send_ask_by, send_ask_move, sending_by, sleep_ask_move, send_result_move};
+ghost use Rattle.bus_nodes.specs.Nodes.{nodes_used};
+ghost use Rattle.base_refusals.specs.Numbers.{number_of};
+ghost use Rattle.bus.specs.Messages.{fate_right, message_refusal, sent_length, carried, unanswered, deliver, publish, request_move, send_row, send_ask_move, sending_by, sleep_ask_move, send_result_move};
 
-use crate::{Arrival, Bus, Delivered, Fate, Moved, Passed, World, stays};
-use bus_nodes::{Message, reach_all};
+use crate::{Bus, Delivered, Fate, Moved, Passed, World, stays};
+use base_refusals::Refusal;
+use bus_nodes::{Message, nodes_used, reach_all};
 use machine_master::{Answer, Master};
 use machine_node::{Command, Reply};
 use machine_state::{State, is_normal};
-use set_plan::{Lookup, Plan, Row};
+use set_plan::{Plan, Row};
 
 fn fate_right(fate: Fate) -> bool
     ensures { result ≡ fate_right fate }
 {
     match fate {
-        Fate::Whole(_) => true,
-        Fate::Damaged(damage) => !(damage.result == 0) & (damage.count < Row::COUNTS),
-        Fate::Lost => true,
+        Fate::Damaged(damage) => (damage.result != 0) & (damage.count < Row::COUNTS),
+        Fate::Whole(_) | Fate::Lost => true,
     }
 }
 
 // Whether a request or an answer can move at all.
-fn message_refusal(reqid: u8, fate: Fate, master: State) -> u8
-    ensures { result ≡ message_refusal reqid fate master }
+fn judge_message(reqid: u8, fate: Fate, master: State) -> Result<(), Refusal>
+    ensures { number_of result ≡ message_refusal reqid fate master }
 {
-    if (reqid as usize) < Row::REQIDS {
-        if fate_right(fate) {
-            if is_normal(master) { 0 } else { 16 }
-        } else {
-            15
-        }
-    } else {
-        15
-    }
+    Refusal::NoEvent.unless((reqid as usize) < Row::REQIDS)?;
+    Refusal::NoEvent.unless(fate_right(fate))?;
+    Refusal::NeedsNormal.unless(is_normal(master))
 }
 
 // The length of a whole answer.
@@ -47,41 +43,41 @@ fn sent_length(row: Row, length: u16) -> u16
     }
 }
 
-fn carried(fate: Fate, row: Row, command: Command) -> Arrival
+fn carried(fate: Fate, row: Row, command: Command) -> Option<(Row, Answer)>
     ensures { result ≡ carried fate row command }
 {
-    match command {
-        Command::Nothing => Arrival::Nothing,
-        Command::Pulse => Arrival::Nothing,
-        Command::Send {
-            permission,
-            wake,
-            count,
-        } => match fate {
-            Fate::Whole(length) => Arrival::Answer {
-                row,
-                answer: Answer {
-                    reqid: row.reqid,
-                    result: 0,
-                    length: sent_length(row, length),
-                    count,
-                    permission,
-                    wake,
-                },
+    let Command::Send {
+        permission,
+        wake,
+        count,
+    } = command
+    else {
+        return None;
+    };
+    match fate {
+        Fate::Whole(length) => Some((
+            row,
+            Answer {
+                reqid: row.reqid,
+                result: 0,
+                length: sent_length(row, length),
+                count,
+                permission,
+                wake,
             },
-            Fate::Damaged(damage) => Arrival::Answer {
-                row,
-                answer: Answer {
-                    reqid: row.reqid,
-                    result: damage.result,
-                    length: damage.length,
-                    count: damage.count,
-                    permission: damage.permission,
-                    wake: damage.wake,
-                },
+        )),
+        Fate::Damaged(damage) => Some((
+            row,
+            Answer {
+                reqid: row.reqid,
+                result: damage.result,
+                length: damage.length,
+                count: damage.count,
+                permission: damage.permission,
+                wake: damage.wake,
             },
-            Fate::Lost => Arrival::Nothing,
-        },
+        )),
+        Fate::Lost => None,
     }
 }
 
@@ -99,17 +95,15 @@ fn unanswered(master: Master, refusal: u8) -> Delivered
 fn deliver(master: Master, row: Row, fate: Fate, reply: Reply) -> Delivered
     ensures { result ≡ deliver row fate reply master }
 {
-    if !(reply.refusal == 0) {
+    if reply.refusal != 0 {
         return unanswered(master, reply.refusal);
     }
-    let command = reply.command;
-    match carried(fate, row, command) {
-        Arrival::Nothing => unanswered(master, 0),
-        Arrival::Answer { row: of, answer } => {
-            let told = master.answer(Lookup::Found(of), answer);
-            let next = told.master;
+    match carried(fate, row, reply.command) {
+        None => unanswered(master, 0),
+        Some((of, answer)) => {
+            let told = master.answer(Some(of), answer);
             Delivered {
-                master: next,
+                master: told.master,
                 refusal: told.refusal,
                 passed: Passed::answered(of, answer),
             }
@@ -120,159 +114,115 @@ fn deliver(master: Master, row: Row, fate: Fate, reply: Reply) -> Delivered
 fn sending_by(command: machine_master::Command) -> Passed
     ensures { result ≡ sending_by command }
 {
-    match command {
-        machine_master::Command::Nothing => Passed::nothing(),
-        machine_master::Command::ClockOn => Passed::nothing(),
-        machine_master::Command::ClockOff => Passed::nothing(),
-        machine_master::Command::SleepMessage => Passed::sending(),
+    if command == machine_master::Command::SleepMessage {
+        Passed::sending()
+    } else {
+        Passed::nothing()
     }
 }
 
 impl World {
     // A request of a row reaches the nodes of a set; its publisher, if it is one of them, answers by the one step that it makes.
-    fn publish(self, count: u8, row: Row, bus: Bus) -> Moved
-        requires { count ≤ max_nodes }
-        ensures { result ≡ publish count row bus self }
+    fn publish(self, nodecount: u8, row: Row, bus: Bus) -> Moved
+        ensures { result ≡ publish (nodes_used nodecount) row bus self }
     {
         let publisher = row.publisher;
-        let fate = bus.fate;
         let mut nodes = self.nodes;
         let mut reached = bus.reached;
-        let master = self.master;
-        let mut told = unanswered(master, 0);
-        if publisher < count {
-            if reached[publisher as usize] {
-                let asked = nodes[publisher as usize];
-                let reply = asked.request(publisher, Lookup::Found(row));
-                let next = reply.node;
-                nodes[publisher as usize] = next;
-                reached[publisher as usize] = false;
-                told = deliver(master, row, fate, reply);
-            }
+        let mut told = unanswered(self.master, 0);
+        if publisher < nodes_used(nodecount) && reached[publisher as usize] {
+            let reply = nodes[publisher as usize].request(publisher, Some(row));
+            nodes[publisher as usize] = reply.node;
+            reached[publisher as usize] = false;
+            told = deliver(self.master, row, bus.fate, reply);
         }
-        let after = told.master;
-        let passed = told.passed;
-        let heard = reach_all(nodes, count, reached, Message::Request(Lookup::Found(row)));
         Moved {
             world: World {
-                master: after,
-                nodes: heard,
+                master: told.master,
+                nodes: reach_all(nodes, nodecount, reached, Message::Request(Some(row))),
             },
             refusal: told.refusal,
-            passed,
+            passed: told.passed,
         }
     }
 
-    pub(crate) fn request(self, plan: Plan, count: u8, reqid: u8, bus: Bus) -> Moved
-        requires { count ≤ max_nodes }
-        ensures { result ≡ request_move plan count reqid bus self }
+    pub(crate) fn request(self, plan: Plan, reqid: u8, bus: Bus) -> Moved
+        ensures { result ≡ request_move plan (nodes_used plan.nodecount) reqid bus self }
     {
-        let master = self.master;
-        let state = master.state;
-        let fate = bus.fate;
-        let refusal = message_refusal(reqid, fate, state);
-        if !(refusal == 0) {
+        if let Err(refusal) = judge_message(reqid, bus.fate, self.master.state) {
             return stays(self, refusal);
         }
         match set_plan::find_row(plan, reqid) {
-            Lookup::Missing => stays(self, 12),
-            Lookup::Found(row) => self.publish(count, row, bus),
+            None => stays(self, Refusal::NoReqId),
+            Some(row) => self.publish(plan.nodecount, row, bus),
         }
     }
 
     // A node's own sending of a row.
-    fn send(self, node: u8, polled: bool, row: Row, fate: Fate) -> Moved
+    fn send(mut self, node: u8, polled: bool, row: Row, fate: Fate) -> Moved
         requires { node < max_nodes }
         ensures { result ≡ send_row node polled row fate self }
     {
-        let mut nodes = self.nodes;
-        let asked = nodes[node as usize];
-        let reply = asked.send_ask(node, polled, Lookup::Found(row));
-        let next = reply.node;
-        nodes[node as usize] = next;
-        let master = self.master;
-        let told = deliver(master, row, fate, reply);
-        let after = told.master;
-        let passed = told.passed;
+        let reply = self.nodes[node as usize].send_ask(node, polled, Some(row));
+        self.nodes[node as usize] = reply.node;
+        let told = deliver(self.master, row, fate, reply);
         Moved {
             world: World {
-                master: after,
-                nodes,
+                master: told.master,
+                ..self
             },
             refusal: told.refusal,
-            passed,
+            passed: told.passed,
         }
     }
 
-    fn send_found(self, node: u8, polled: bool, row: Lookup, fate: Fate) -> Moved
-        requires { node < max_nodes }
-        ensures { result ≡ send_ask_by node polled fate self row }
+    pub(crate) fn send_ask(self, plan: Plan, node: u8, reqid: u8, bus: Bus) -> Moved
+        ensures { result ≡ send_ask_move plan (nodes_used plan.nodecount) node reqid bus self }
     {
-        match row {
-            Lookup::Missing => stays(self, 12),
-            Lookup::Found(found) => self.send(node, polled, found, fate),
+        if nodes_used(plan.nodecount) <= node {
+            return stays(self, Refusal::NoState);
         }
-    }
-
-    pub(crate) fn send_ask(self, plan: Plan, count: u8, node: u8, reqid: u8, bus: Bus) -> Moved
-        requires { count ≤ max_nodes }
-        ensures { result ≡ send_ask_move plan count node reqid bus self }
-    {
-        let master = self.master;
-        let state = master.state;
-        let fate = bus.fate;
-        if node < count {
-            let refusal = message_refusal(reqid, fate, state);
-            if !(refusal == 0) {
-                return stays(self, refusal);
-            }
-            self.send_found(
-                node,
-                plan.is_polled(node),
-                set_plan::find_row(plan, reqid),
-                fate,
-            )
-        } else {
-            stays(self, 11)
+        if let Err(refusal) = judge_message(reqid, bus.fate, self.master.state) {
+            return stays(self, refusal);
+        }
+        match set_plan::find_row(plan, reqid) {
+            None => stays(self, Refusal::NoReqId),
+            Some(row) => self.send(node, plan.is_polled(node), row, bus.fate),
         }
     }
 
     pub(crate) fn sleep_ask(self, sleeps: bool, nodecount: u8) -> Moved
         ensures { result ≡ sleep_ask_move sleeps nodecount self }
     {
-        let master = self.master;
-        let reply = master.sleep_ask(sleeps, nodecount);
-        let next = reply.master;
-        let command = reply.command;
+        let reply = self.master.sleep_ask(sleeps, nodecount);
         Moved {
             world: World {
-                master: next,
+                master: reply.master,
                 ..self
             },
             refusal: reply.refusal,
-            passed: sending_by(command),
+            passed: sending_by(reply.command),
         }
     }
 
-    pub(crate) fn send_result(self, count: u8, sent: bool, bus: Bus) -> Moved
-        requires { count ≤ max_nodes }
-        ensures { result ≡ send_result_move count sent bus self }
+    pub(crate) fn send_result(self, nodecount: u8, sent: bool, bus: Bus) -> Moved
+        ensures { result ≡ send_result_move (nodes_used nodecount) sent bus self }
     {
-        let master = self.master;
-        let nodes = self.nodes;
-        let reply = master.send_result(sent);
-        if !(reply.refusal == 0) {
-            return stays(self, reply.refusal);
+        let reply = self.master.send_result(sent);
+        if reply.refusal != 0 {
+            return Moved {
+                world: self,
+                refusal: reply.refusal,
+                passed: Passed::nothing(),
+            };
         }
-        let next = reply.master;
-        let reached = bus.reached;
         Moved {
             world: World {
-                master: next,
-                nodes: reach_all(nodes, count, reached, Message::SleepMessage),
+                master: reply.master,
+                nodes: reach_all(self.nodes, nodecount, bus.reached, Message::SleepMessage),
             },
             refusal: 0,
-            passed: Passed::slept(sent, reached),
+            passed: Passed::slept(sent, bus.reached),
         }
     }
 }

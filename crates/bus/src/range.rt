@@ -7,11 +7,11 @@ use bus_nodes::nodes_in_range;
 use set_plan::Times;
 
 impl World {
+    #[tactic(auto, unfolding(crate::specs::Range::world_in_range))]
     pub fn in_range(self, sleeps: bool, nodecount: u8, times: Times) -> bool
         ensures { result ≡ world_in_range sleeps nodecount times self }
     {
-        let master = self.master;
-        let nodes = self.nodes;
-        master.in_range(sleeps, nodecount, times) & nodes_in_range(nodes, sleeps, nodecount, times)
+        self.master.in_range(sleeps, nodecount, times)
+            & nodes_in_range(self.nodes, sleeps, nodecount, times)
     }
 }

@@ -1,11 +1,11 @@
 // A tick of all machines.
-ghost use Rattle.std.specs.Prelude.{◌≡◌, ◌≤◌};
-ghost use Rattle.set_plan.specs.Limits.{max_nodes};
+ghost use Rattle.std.specs.Prelude.{◌≡◌};
+ghost use Rattle.bus_nodes.specs.Nodes.{nodes_used};
 ghost use Rattle.machine_master.specs.Clock.{is_off};
 ghost use Rattle.bus.specs.Ticks.{tick_move};
 
 use crate::{Bus, Moved, Passed, World};
-use bus_nodes::{any_called, tick_nodes};
+use bus_nodes::{Ticked, any_called, tick_nodes};
 use machine_master::Command;
 use machine_state::is_normal;
 use set_plan::Times;
@@ -13,48 +13,32 @@ use set_plan::Times;
 fn is_off(command: Command) -> bool
     ensures { result ≡ is_off command }
 {
-    match command {
-        Command::Nothing => false,
-        Command::ClockOn => false,
-        Command::ClockOff => true,
-        Command::SleepMessage => false,
-    }
+    command == Command::ClockOff
 }
 
 impl World {
-    pub(crate) fn tick(self, sleeps: bool, count: u8, times: Times, bus: Bus) -> Moved
-        requires { count ≤ max_nodes }
-        ensures { result ≡ tick_move sleeps times count bus self }
+    pub(crate) fn tick(self, sleeps: bool, nodecount: u8, times: Times, bus: Bus) -> Moved
+        ensures { result ≡ tick_move sleeps times (nodes_used nodecount) bus self }
     {
-        let master = self.master;
-        let before = self.nodes;
-        let reply = master.tick(times);
-        let next = reply.master;
-        let state = next.state;
-        let command = reply.command;
-        let clock = is_normal(state);
-        let ticked = tick_nodes(before, sleeps, count, times, clock);
-        let nodes = ticked.nodes;
-        let callers = ticked.callers;
+        let reply = self.master.tick(times);
+        let clock = is_normal(reply.master.state);
+        let Ticked { nodes, callers } = tick_nodes(self.nodes, sleeps, nodecount, times, clock);
+        let world = World {
+            master: reply.master,
+            nodes,
+        };
         let called = any_called(callers);
-        let passed = Passed::ticked(clock, is_off(command), called & bus.master);
+        let passed = Passed::ticked(clock, is_off(reply.command), called & bus.master);
         // most ticks: the world goes on without the copies that a pulse costs
         if !called {
             return Moved {
-                world: World {
-                    master: next,
-                    nodes,
-                },
+                world,
                 refusal: reply.refusal,
                 passed,
             };
         }
-        let world = World {
-            master: next,
-            nodes,
-        };
         Moved {
-            world: world.spread(count, callers, bus),
+            world: world.spread(nodecount, callers, bus),
             refusal: reply.refusal,
             passed,
         }

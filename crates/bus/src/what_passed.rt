@@ -1,20 +1,10 @@
 // What passed in a move, as facts.
 ghost use Rattle.std.specs.Prelude.{◌≡◌};
-ghost use Rattle.bus.specs.Passed.{result_of, nothing, ticked, asked, master_permits, node_permits, answered, sending, slept};
+ghost use Rattle.bus.specs.Passed.{nothing, ticked, asked, master_permits, node_permits, answered, sending, slept};
 
-use crate::{Arrival, Passed, PermissionChange, SendResult};
+use crate::{Passed, PermissionChange};
 use machine_master::Answer;
 use set_plan::{Plan, Row};
-
-fn result_of(sent: bool) -> SendResult
-    ensures { result ≡ result_of sent }
-{
-    if sent {
-        SendResult::Sent
-    } else {
-        SendResult::Failed
-    }
-}
 
 impl Passed {
     pub(crate) fn nothing() -> Passed
@@ -26,10 +16,10 @@ impl Passed {
             stop: false,
             asked: false,
             woken: false,
-            permission: PermissionChange::Nobody,
-            arrival: Arrival::Nothing,
+            permission: None,
+            arrival: None,
             sending: false,
-            result: SendResult::Unknown,
+            result: None,
             slept: [false; Plan::NODES],
         }
     }
@@ -60,7 +50,7 @@ impl Passed {
         ensures { result ≡ master_permits permitted }
     {
         Passed {
-            permission: PermissionChange::Master(permitted),
+            permission: Some(PermissionChange::Master(permitted)),
             ..Passed::nothing()
         }
     }
@@ -69,7 +59,7 @@ impl Passed {
         ensures { result ≡ node_permits node permitted }
     {
         Passed {
-            permission: PermissionChange::Node { node, permitted },
+            permission: Some(PermissionChange::Node { node, permitted }),
             ..Passed::nothing()
         }
     }
@@ -78,7 +68,7 @@ impl Passed {
         ensures { result ≡ answered row answer }
     {
         Passed {
-            arrival: Arrival::Answer { row, answer },
+            arrival: Some((row, answer)),
             ..Passed::nothing()
         }
     }
@@ -96,7 +86,7 @@ impl Passed {
         ensures { result ≡ slept sent nodes }
     {
         Passed {
-            result: result_of(sent),
+            result: Some(sent),
             slept: nodes,
             ..Passed::nothing()
         }

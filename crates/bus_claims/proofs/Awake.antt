@@ -1,4 +1,5 @@
 -- W-206: in a run of machines that never sleep every machine stays awake, no node shows an error and no tick stops the clock.
+use Rattle.std.specs.Prelude.{Option, Some, None}
 use Prim.Native.Nat.{ℕ, ◌<◌}
 use mathlib.Core.Path.{◌≡◌, refl, sym, ap, subst, ◌∙◌}
 use mathlib.Core.Bool.{Bool, true, false, not, ◌&&◌}
@@ -10,7 +11,6 @@ use borrow.Author.Tests.{ltb-true}
 use Rattle.base_lists.proofs.AllAny.{and_l}
 use Rattle.base_lists.proofs.Choices.{by_test, no_way}
 use Rattle.machine_state.specs.State.{is_normal}
-use Rattle.set_plan.specs.declared.Lookup.{Lookup}
 use Rattle.set_plan.specs.declared.Plan.{Plan}
 use Rattle.set_plan.specs.declared.Row.{Row}
 use Rattle.set_plan.specs.Answering.{is_polled}
@@ -24,6 +24,7 @@ use Rattle.machine_node.specs.Sending.{request_step, send_ask_step}
 use Rattle.machine_node.specs.Ticks as NodeTicks
 use Rattle.machine_node.specs.Waking as NodeWaking
 use Rattle.machine_node.proofs.Awake as NodeAwake
+use Rattle.machine_master.specs.declared.Answer.{Answer}
 use Rattle.machine_master.specs.declared.Command.{Command}
 use Rattle.machine_master.specs.declared.Master.{Master}
 use Rattle.machine_master.specs.Clock.{clock_on, is_off}
@@ -31,7 +32,6 @@ use Rattle.machine_master.specs.Sleeping.{sleep_ask_step, send_result_step}
 use Rattle.machine_master.specs.Ticks as MasterTicks
 use Rattle.machine_master.proofs.Awake as MasterAwake
 use Rattle.bus.specs.declared.Act.{Act}
-use Rattle.bus.specs.declared.Arrival.{Arrival}
 use Rattle.bus.specs.declared.Bus.{Bus}
 use Rattle.bus_nodes.specs.declared.Callers.{Callers}
 use Rattle.bus.specs.declared.Delivered.{Delivered}
@@ -76,9 +76,9 @@ record Taken (d : Delivered) : Type 0 where
   awake : MasterAwake.Awake d.master
   runs : is_stop d.passed ≡ false
 
-arrive-awake : (m : Master) → MasterAwake.Awake m → (x : Arrival) → Taken (arrive m x)
-arrive-awake m a Arrival.Nothing = record { awake = a; runs = refl }
-arrive-awake m a (Arrival.Answer row x) = record { awake = (MasterAwake.awake-answer m (Lookup.Found row) x a).0; runs = refl }
+arrive-awake : (m : Master) → MasterAwake.Awake m → (x : Option (Row × Answer)) → Taken (arrive m x)
+arrive-awake m a None = record { awake = a; runs = refl }
+arrive-awake m a (Some (row, x)) = record { awake = (MasterAwake.awake-answer m (Some row) x a).0; runs = refl }
 
 deliver-awake : (row : Row) (fate : Fate) (reply : NodeReply.Reply) (m : Master) → MasterAwake.Awake m → Taken (deliver row fate reply m)
 deliver-awake row fate reply m a =
@@ -144,7 +144,7 @@ module _ (p : Plan) (ok : plan_refusal p ≡ 0) where
         kept _ (alone node _ l (NodeAwake.awake_permission (λ e. e ≡ false) (node_at w.nodes node) q.0 q.1 permitted)) v.master refl)
 
     -- a request that reaches a set of nodes
-    requested : (row : Lookup) (reached : List Bool) (nodes : List Node) → Each p.nodecount Clear nodes
+    requested : (row : Option Row) (reached : List Bool) (nodes : List Node) → Each p.nodecount Clear nodes
         → Each p.nodecount Clear (reach_all (Message.Request row) reached (nodes_used p.nodecount) nodes)
     requested row reached nodes e =
         over p.nodecount (few p ok) Clear Clear nodes e (λ k x. receive_if (get_or reached k false) (Message.Request row) k x)
@@ -160,25 +160,25 @@ module _ (p : Plan) (ok : plan_refusal p ≡ 0) where
     judged_kept reqid fate o h =
         by_test Kept (not (eqb (message_refusal reqid fate w.master.state) 0)) (λ e. stays_kept (message_refusal reqid fate w.master.state)) (λ e. h)
 
-    request_kept : (bus : Bus) (row : Lookup) → Kept (publish_found (nodes_used p.nodecount) bus w row)
-    request_kept bus Lookup.Missing = stays_kept 12
-    request_kept bus (Lookup.Found row) =
+    request_kept : (bus : Bus) (row : Option Row) → Kept (publish_found (nodes_used p.nodecount) bus w row)
+    request_kept bus None = stays_kept 12
+    request_kept bus (Some row) =
         by_test Kept (ltb row.publisher (nodes_used p.nodecount) && get_or bus.reached row.publisher false)
         (λ l.
         let me = row.publisher in
         let k : me < p.nodecount = omega (arith, ltb-true me (nodes_used p.nodecount) (and_l (ltb me (nodes_used p.nodecount)) (get_or bus.reached me false) l)) in
         let q = v.nodes.each me k in
-        delivers _ row bus.fate (request_step me (Lookup.Found row) (node_at w.nodes me))
-        (requested (Lookup.Found row) (set bus.reached me false) _
-        (alone me _ k (NodeAwake.awake_request (λ e. e ≡ false) (node_at w.nodes me) q.0 q.1 me (Lookup.Found row)))))
-        (λ l. kept _ (requested (Lookup.Found row) bus.reached w.nodes v.nodes) v.master refl)
+        delivers _ row bus.fate (request_step me (Some row) (node_at w.nodes me))
+        (requested (Some row) (set bus.reached me false) _
+        (alone me _ k (NodeAwake.awake_request (λ e. e ≡ false) (node_at w.nodes me) q.0 q.1 me (Some row)))))
+        (λ l. kept _ (requested (Some row) bus.reached w.nodes v.nodes) v.master refl)
 
-    send_ask_kept : (node : ℕ) (fate : Fate) (row : Lookup) → node < p.nodecount → Kept (send_ask_by node (is_polled p node) fate w row)
-    send_ask_kept node fate Lookup.Missing l = stays_kept 12
-    send_ask_kept node fate (Lookup.Found row) l =
+    send_ask_kept : (node : ℕ) (fate : Fate) (row : Option Row) → node < p.nodecount → Kept (send_ask_by node (is_polled p node) fate w row)
+    send_ask_kept node fate None l = stays_kept 12
+    send_ask_kept node fate (Some row) l =
         let q = v.nodes.each node l in
-        delivers _ row fate (send_ask_step node (is_polled p node) (Lookup.Found row) (node_at w.nodes node))
-        (alone node _ l (NodeAwake.awake_send_ask (λ e. e ≡ false) (node_at w.nodes node) q.0 q.1 node (is_polled p node) (Lookup.Found row)))
+        delivers _ row fate (send_ask_step node (is_polled p node) (Some row) (node_at w.nodes node))
+        (alone node _ l (NodeAwake.awake_send_ask (λ e. e ≡ false) (node_at w.nodes node) q.0 q.1 node (is_polled p node) (Some row)))
 
     sleep_ask_kept : Kept (sleep_ask_move false p.nodecount w)
     sleep_ask_kept = kept _ v.nodes (MasterAwake.awake_sleep_ask w.master p.nodecount v.master).0 (unstopped (sleep_ask_step false p.nodecount w.master).command)

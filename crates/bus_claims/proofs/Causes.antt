@@ -1,4 +1,5 @@
 -- A node's permission and its cause, by its last answer and what came after it, a move later.
+use Rattle.std.specs.Prelude.{Option, Some, None}
 use Prim.Native.Nat.{ℕ, suc, ◌+◌}
 use mathlib.Core.Path.{◌≡◌, refl, sym, ap, ap₂, ◌∙◌}
 use mathlib.Core.Bool.{Bool, true, false, not, ◌&&◌}
@@ -15,7 +16,6 @@ use Rattle.machine_master.specs.Changes.{no_hold, cause_new, woken}
 use Rattle.machine_master.specs.Ticks.{older, aged_out}
 use Rattle.machine_reason.specs.declared.Cause.{Cause}
 use Rattle.machine_reason.specs.Numbers.{cause_number}
-use Rattle.bus.specs.declared.Arrival.{Arrival}
 use Rattle.bus.specs.declared.Passed.{Passed}
 use Rattle.bus_history.specs.Terms.{none, is_wake_up, ticks_in, within}
 use Rattle.bus_claims.specs.Reasons.{held_by, cause_by}
@@ -99,14 +99,14 @@ module _ (window : ℕ) where
   within_all (e ∷ after) h = within_later e after ∙ ap (λ (b : Bool). if_else b (none is_wake_up (e ∷ after)) (none is_wake_up (within window after))) h
 
   -- what the master has of a node
-  abbrev pub hold_by : Arrival → List Passed → Hold
+  abbrev pub hold_by : Option (Row × Answer) → List Passed → Hold
   hold_by last after = if_else (held_by window last after) (given (ticks_in after)) no_hold
 
-  abbrev pub number_by : Arrival → List Passed → ℕ
+  abbrev pub number_by : Option (Row × Answer) → List Passed → ℕ
   number_by last after = if_else (held_by window last after) cause_new (cause_number (cause_by window last after))
 
   number_later : (row : Row) (a : Answer) (e : Passed) (after : List Passed)
-      → number_by (Arrival.Answer row a) (e ∷ after)
+      → number_by (Some (row, a)) (e ∷ after)
       ≡ number_is (is_whole row a) a.wake a.permission (none is_wake_up (e ∷ after)) (leb (ticks_in (e ∷ after)) window)
       (if_else (leb (ticks_in (e ∷ after)) window) (none is_wake_up (e ∷ after)) (none is_wake_up (within window after)))
   number_later row a e after =
@@ -114,13 +114,13 @@ module _ (window : ℕ) where
 
   module _ (e : Passed) (after : List Passed) where
     -- a move that is no tick and no wake-up
-    pub hold_still : (last : Arrival) → e.tick ≡ false → is_wake_up e ≡ false → hold_by last (e ∷ after) ≡ hold_by last after
-    hold_still Arrival.Nothing t w = refl
-    hold_still (Arrival.Answer row a) t w = rw (w, t)
+    pub hold_still : (last : Option (Row × Answer)) → e.tick ≡ false → is_wake_up e ≡ false → hold_by last (e ∷ after) ≡ hold_by last after
+    hold_still None t w = refl
+    hold_still (Some (row, a)) t w = rw (w, t)
 
-    pub number_still : (last : Arrival) → e.tick ≡ false → is_wake_up e ≡ false → number_by last (e ∷ after) ≡ number_by last after
-    number_still Arrival.Nothing t w = refl
-    number_still (Arrival.Answer row a) t w =
+    pub number_still : (last : Option (Row × Answer)) → e.tick ≡ false → is_wake_up e ≡ false → number_by last (e ∷ after) ≡ number_by last after
+    number_still None t w = refl
+    number_still (Some (row, a)) t w =
         number_later row a e after ∙ rw (w, t) (go (leb (ticks_in after) window) refl)
       where
         n : Bool
@@ -137,37 +137,37 @@ module _ (window : ℕ) where
         go false h = ap (number_is (is_whole row a) a.wake a.permission n (leb (ticks_in after) window)) (ap (λ (b : Bool). if_else b n y) h)
 
     -- a wake-up
-    pub hold-woken : (last : Arrival) → is_wake_up e ≡ true → hold_by last (e ∷ after) ≡ no_hold
-    hold-woken Arrival.Nothing w = refl
-    hold-woken (Arrival.Answer row a) w = rw w (go (is_whole row a && not a.wake && a.permission))
+    pub hold-woken : (last : Option (Row × Answer)) → is_wake_up e ≡ true → hold_by last (e ∷ after) ≡ no_hold
+    hold-woken None w = refl
+    hold-woken (Some (row, a)) w = rw w (go (is_whole row a && not a.wake && a.permission))
       where
         go : (b : Bool) → if_else (b && (false && leb (ticks_in (e ∷ after)) window)) (given (ticks_in (e ∷ after))) no_hold ≡ no_hold
         go true = refl
         go false = refl
 
-    pub number-woken : (last : Arrival) → e.tick ≡ false → is_wake_up e ≡ true → number_by last (e ∷ after) ≡ woken (hold_by last after) (number_by last after)
-    number-woken Arrival.Nothing t w = refl
-    number-woken (Arrival.Answer row a) t w =
+    pub number-woken : (last : Option (Row × Answer)) → e.tick ≡ false → is_wake_up e ≡ true → number_by last (e ∷ after) ≡ woken (hold_by last after) (number_by last after)
+    number-woken None t w = refl
+    number-woken (Some (row, a)) t w =
         number_later row a e after
         ∙ rw (w, t) (woken_bits (is_whole row a) a.wake a.permission (none is_wake_up after) (leb (ticks_in after) window) (none is_wake_up (within window after)) (none is_wake_up (within window after)) (ticks_in after)
         (within_all after) (λ h. refl))
 
     -- a tick
-    pub hold-older : (last : Arrival) → e.tick ≡ true → is_wake_up e ≡ false → hold_by last (e ∷ after) ≡ older window (hold_by last after)
-    hold-older Arrival.Nothing t w = refl
-    hold-older (Arrival.Answer row a) t w = rw (w, t) (older_bits (is_whole row a) a.wake a.permission (none is_wake_up after) (ticks_in after))
+    pub hold-older : (last : Option (Row × Answer)) → e.tick ≡ true → is_wake_up e ≡ false → hold_by last (e ∷ after) ≡ older window (hold_by last after)
+    hold-older None t w = refl
+    hold-older (Some (row, a)) t w = rw (w, t) (older_bits (is_whole row a) a.wake a.permission (none is_wake_up after) (ticks_in after))
 
-    pub number-older : (last : Arrival) → e.tick ≡ true → is_wake_up e ≡ false → number_by last (e ∷ after) ≡ aged_out true window (hold_by last after) (number_by last after)
-    number-older Arrival.Nothing t w = refl
-    number-older (Arrival.Answer row a) t w =
+    pub number-older : (last : Option (Row × Answer)) → e.tick ≡ true → is_wake_up e ≡ false → number_by last (e ∷ after) ≡ aged_out true window (hold_by last after) (number_by last after)
+    number-older None t w = refl
+    number-older (Some (row, a)) t w =
         number_later row a e after
         ∙ rw (w, t) (aged_bits (is_whole row a) a.wake a.permission (none is_wake_up after) (none is_wake_up (within window after)) (ticks_in after) (within_all after))
 
     -- a pulse that follows the tick's ageing
-    pub number_pulse : (last : Arrival) (f : Passed) → e.tick ≡ true → is_wake_up e ≡ false → f.tick ≡ true → is_wake_up f ≡ true
+    pub number_pulse : (last : Option (Row × Answer)) (f : Passed) → e.tick ≡ true → is_wake_up e ≡ false → f.tick ≡ true → is_wake_up f ≡ true
         → number_by last (f ∷ after) ≡ woken (hold_by last (e ∷ after)) (number_by last (e ∷ after))
-    number_pulse Arrival.Nothing f t w u v = refl
-    number_pulse (Arrival.Answer row a) f t w u v =
+    number_pulse None f t w u v = refl
+    number_pulse (Some (row, a)) f t w u v =
         number_later row a f after
         ∙ rw (v, u) (woken_bits (is_whole row a) a.wake a.permission n l (if_else l n y) y (suc (ticks_in after)) (λ h. ap (λ (b : Bool). if_else b n y) h) (λ h. sym (ap (λ (b : Bool). if_else b n y) h)))
         ∙ sym (ap₂ woken hold_there number_there)
@@ -181,19 +181,19 @@ module _ (window : ℕ) where
         y : Bool
         y = none is_wake_up (within window after)
 
-        hold_there : hold_by (Arrival.Answer row a) (e ∷ after) ≡ if_else (held_is (is_whole row a) a.wake a.permission n l) (given (suc (ticks_in after))) no_hold
+        hold_there : hold_by (Some (row, a)) (e ∷ after) ≡ if_else (held_is (is_whole row a) a.wake a.permission n l) (given (suc (ticks_in after))) no_hold
         hold_there = rw (w, t)
 
-        number_there : number_by (Arrival.Answer row a) (e ∷ after) ≡ number_is (is_whole row a) a.wake a.permission n l (if_else l n y)
+        number_there : number_by (Some (row, a)) (e ∷ after) ≡ number_is (is_whole row a) a.wake a.permission n l (if_else l n y)
         number_there = number_later row a e after ∙ rw (w, t)
 
   -- the answer itself
-  pub hold-answer : (row : Row) (a : Answer) → hold_by (Arrival.Answer row a) [] ≡ if_else (is_whole row a && not a.wake && a.permission) (given 0) no_hold
+  pub hold-answer : (row : Row) (a : Answer) → hold_by (Some (row, a)) [] ≡ if_else (is_whole row a && not a.wake && a.permission) (given 0) no_hold
   hold-answer row a = rw (le-leb 0 window (omega arith)) (go (is_whole row a && not a.wake && a.permission))
     where
       go : (b : Bool) → if_else (b && (true && true)) (given 0) no_hold ≡ if_else b (given 0) no_hold
       go true = refl
       go false = refl
 
-  pub number-answer : (row : Row) (a : Answer) → number_by (Arrival.Answer row a) [] ≡ number_is (is_whole row a) a.wake a.permission true true true
+  pub number-answer : (row : Row) (a : Answer) → number_by (Some (row, a)) [] ≡ number_is (is_whole row a) a.wake a.permission true true true
   number-answer row a = rw (le-leb 0 window (omega arith))

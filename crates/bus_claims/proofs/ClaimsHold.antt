@@ -1,4 +1,5 @@
 -- Demand 3 holds of every list of moves under every accepted plan.
+use Rattle.std.specs.Prelude.{Option, Some, None}
 use Prim.Native.Nat.{ℕ, ◌≤◌, ◌<◌}
 use mathlib.Core.Path.{◌≡◌, refl, sym, ap, subst, ◌∙◌}
 use mathlib.Core.Bool.{Bool, true, false, not, ◌&&◌}
@@ -13,7 +14,6 @@ use Rattle.base_lists.proofs.AllAny.{and_l, and_r}
 use Rattle.base_lists.proofs.Choices.{by_test, no_way}
 use Rattle.machine_state.specs.declared.State.{State}
 use Rattle.machine_state.specs.State.{is_normal}
-use Rattle.set_plan.specs.declared.Lookup.{Lookup}
 use Rattle.set_plan.specs.declared.Plan.{Plan}
 use Rattle.set_plan.specs.declared.Row.{Row}
 use Rattle.set_plan.specs.Answering.{is_polled, accepts}
@@ -42,7 +42,6 @@ use Rattle.machine_master.specs.Ticks as MasterTicks
 use Rattle.machine_master.specs.Waking.{wake_up_step}
 use Rattle.machine_master.proofs.InRange.{Fits, act_fits}
 use Rattle.bus.specs.declared.Act.{Act}
-use Rattle.bus.specs.declared.Arrival.{Arrival}
 use Rattle.bus.specs.declared.Bus.{Bus}
 use Rattle.bus_nodes.specs.declared.Callers.{Callers}
 use Rattle.bus.specs.declared.Fate.{Fate}
@@ -115,30 +114,30 @@ module _ (p : Plan) (ok : plan_refusal p ≡ 0) (past : List Passed) where
   stays_by_past w number v = record { nodes = record { size = v.nodes.size; each = v.nodes.each }; master = Masters.nothing_by_past p ok past w.master v.master }
 
   -- in Normal an answer of a plan's row is judged by that row
-  module _ (w : World) (v : WorldByPast p w past) (reqid : ℕ) (row : Row) (fate : Fate) (found : find_row p reqid ≡ Lookup.Found row) (moves : Moves reqid fate w.master.state) where
+  module _ (w : World) (v : WorldByPast p w past) (reqid : ℕ) (row : Row) (fate : Fate) (found : find_row p reqid ≡ Some row) (moves : Moves reqid fate w.master.state) where
     same : row.reqid ≡ reqid
     same = (found_row p reqid row found).same
 
     arrives : (nodes : List Node) (a : Answer) → NodesByPast p nodes past → row.publisher < p.nodecount → a.reqid ≡ row.reqid → a.count < 4
         → (is_whole row a ≡ true → a.permission ≡ true → node_permitted row.publisher past ≡ true)
-        → Kept (delivered_in nodes (arrive w.master (Arrival.Answer row a)))
+        → Kept (delivered_in nodes (arrive w.master (Some (row, a))))
     arrives nodes a by-past l q c honest =
         record {
           nodes = record { size = by-past.size; each = by-past.each };
           master = subst (λ (r : Reply). MasterByPast p r.master (answered row a ∷ past)) (sym judged) (Masters.answer_by_past p ok past row a w.master moves.clock l honest fits v.master);
         }
       where
-        in_normal_lem : (s : State) → is_normal s ≡ true → answer_by s (Lookup.Found row) a w.master ≡ row_step row a w.master
+        in_normal_lem : (s : State) → is_normal s ≡ true → answer_by s (Some row) a w.master ≡ row_step row a w.master
         in_normal_lem State.Normal e = refl
         in_normal_lem State.Standby e = no_way e
         in_normal_lem State.Sleep e = no_way e
 
-        judged : answer_step (Lookup.Found row) a w.master ≡ row_step row a w.master
+        judged : answer_step (Some row) a w.master ≡ row_step row a w.master
         judged = in_normal_lem w.master.state moves.clock
 
         fits : Fits p.nodecount p.times (row_step row a w.master).master
         fits =
-            subst (λ (r : Reply). Fits p.nodecount p.times r.master) (ap (λ (r : Lookup). answer_step r a w.master) (ap (find_row p) (q ∙ same) ∙ found) ∙ judged)
+            subst (λ (r : Reply). Fits p.nodecount p.times r.master) (ap (λ (r : Option Row). answer_step r a w.master) (ap (find_row p) (q ∙ same) ∙ found) ∙ judged)
             (act_fits p ok w.master (Event.Answer a) (rw (lt-ltb a.reqid 128 (omega (arith, moves.known, q, same)), lt-ltb a.count 4 c)) v.master.fits)
 
     -- what a node of the plan sends
@@ -149,7 +148,7 @@ module _ (p : Plan) (ok : plan_refusal p ≡ 0) (past : List Passed) where
       quietly : (number : ℕ) → Kept (stays Then number)
       quietly number = stays_by_past Then number (record { nodes = by-past; master = v.master })
 
-      sends : (f : Fate) → fate_right f ≡ true → (c : NodeCommand.Command) → CommandMeans n ⊥ (own_row me (Lookup.Found row) n) c → Kept (delivered_in nodes (arrive w.master (carried f row c)))
+      sends : (f : Fate) → fate_right f ≡ true → (c : NodeCommand.Command) → CommandMeans n ⊥ (own_row me (Some row) n) c → Kept (delivered_in nodes (arrive w.master (carried f row c)))
       sends f r NodeCommand.Command.Nothing t = quietly 0
       sends f r NodeCommand.Command.Pulse t = quietly 0
       sends (Fate.Whole length) r (NodeCommand.Command.Send permission wake count) t =
@@ -166,7 +165,7 @@ module _ (p : Plan) (ok : plan_refusal p ≡ 0) (past : List Passed) where
           unwhole false e q = no_way e
       sends Fate.Lost r (NodeCommand.Command.Send permission wake count) t = quietly 0
 
-      delivers : (reply : NodeReply.Reply) → CommandMeans n ⊥ (own_row me (Lookup.Found row) n) reply.command → Kept (delivered_in nodes (deliver row fate reply w.master))
+      delivers : (reply : NodeReply.Reply) → CommandMeans n ⊥ (own_row me (Some row) n) reply.command → Kept (delivered_in nodes (deliver row fate reply w.master))
       delivers reply t = by_test (λ (d : Delivered). Kept (delivered_in nodes d)) (not (eqb reply.refusal 0)) (λ e. quietly reply.refusal) (λ e. sends fate moves.right reply.command t)
 
   module _ (w : World) (v : WorldByPast p w past) where
@@ -180,28 +179,28 @@ module _ (p : Plan) (ok : plan_refusal p ≡ 0) (past : List Passed) where
     request_by_past : (reqid : ℕ) (bus : Bus) → Moves reqid bus.fate w.master.state → Kept (publish_found (nodes_used p.nodecount) bus w (find_row p reqid))
     request_by_past reqid bus moves = go (find_row p reqid) refl
       where
-        go : (row : Lookup) → find_row p reqid ≡ row → Kept (publish_found (nodes_used p.nodecount) bus w row)
-        go Lookup.Missing e = stays_by_past w 12 v
-        go (Lookup.Found row) e =
+        go : (row : Option Row) → find_row p reqid ≡ row → Kept (publish_found (nodes_used p.nodecount) bus w row)
+        go None e = stays_by_past w 12 v
+        go (Some row) e =
             by_test Kept (ltb row.publisher (nodes_used p.nodecount) && get_or bus.reached row.publisher false)
             (λ l.
             let k : row.publisher < p.nodecount = omega (arith, ltb-true row.publisher (nodes_used p.nodecount) (and_l (ltb row.publisher (nodes_used p.nodecount)) (get_or bus.reached row.publisher false) l)) in
             delivers w v reqid row bus.fate e moves row.publisher (node_at w.nodes row.publisher) k (v.nodes.each row.publisher k) _
-            (Nodes.request_by_past p ok (Lookup.Found row) (set bus.reached row.publisher false) _ past (Nodes.publisher_by_past p ok row.publisher (Lookup.Found row) w.nodes past v.nodes k))
-            (request_step row.publisher (Lookup.Found row) (node_at w.nodes row.publisher)) (request_means row.publisher (Lookup.Found row) (node_at w.nodes row.publisher)))
-            (λ l. stays_by_past _ 0 (record { nodes = Nodes.request_by_past p ok (Lookup.Found row) bus.reached w.nodes past v.nodes; master = v.master }))
+            (Nodes.request_by_past p ok (Some row) (set bus.reached row.publisher false) _ past (Nodes.publisher_by_past p ok row.publisher (Some row) w.nodes past v.nodes k))
+            (request_step row.publisher (Some row) (node_at w.nodes row.publisher)) (request_means row.publisher (Some row) (node_at w.nodes row.publisher)))
+            (λ l. stays_by_past _ 0 (record { nodes = Nodes.request_by_past p ok (Some row) bus.reached w.nodes past v.nodes; master = v.master }))
 
     send_ask_by_past : (node reqid : ℕ) (bus : Bus) → node < p.nodecount → Moves reqid bus.fate w.master.state
         → Kept (send_ask_by node (is_polled p node) bus.fate w (find_row p reqid))
     send_ask_by_past node reqid bus l moves = go (find_row p reqid) refl
       where
-        go : (row : Lookup) → find_row p reqid ≡ row → Kept (send_ask_by node (is_polled p node) bus.fate w row)
-        go Lookup.Missing e = stays_by_past w 12 v
-        go (Lookup.Found row) e =
+        go : (row : Option Row) → find_row p reqid ≡ row → Kept (send_ask_by node (is_polled p node) bus.fate w row)
+        go None e = stays_by_past w 12 v
+        go (Some row) e =
             delivers w v reqid row bus.fate e moves node (node_at w.nodes node) l (v.nodes.each node l)
-            (set w.nodes node (send_ask_step node (is_polled p node) (Lookup.Found row) (node_at w.nodes node)).node)
-            (Nodes.send_ask_by_past p ok node (is_polled p node) (Lookup.Found row) w.nodes past v.nodes l)
-            (send_ask_step node (is_polled p node) (Lookup.Found row) (node_at w.nodes node)) (send_ask_means node (is_polled p node) (Lookup.Found row) (node_at w.nodes node))
+            (set w.nodes node (send_ask_step node (is_polled p node) (Some row) (node_at w.nodes node)).node)
+            (Nodes.send_ask_by_past p ok node (is_polled p node) (Some row) w.nodes past v.nodes l)
+            (send_ask_step node (is_polled p node) (Some row) (node_at w.nodes node)) (send_ask_means node (is_polled p node) (Some row) (node_at w.nodes node))
 
     sending_unseen : (c : MasterCommand.Command) → NodesByPast p w.nodes (sending_by c ∷ past)
     sending_unseen MasterCommand.Command.Nothing = record { size = v.nodes.size; each = v.nodes.each }

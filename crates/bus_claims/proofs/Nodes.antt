@@ -1,4 +1,6 @@
 -- The nodes of a run: each is as the past tells, after every move.
+use Rattle.set_plan.specs.declared.Row.{Row}
+use Rattle.std.specs.Prelude.{Option}
 use Prim.Native.Nat.{ℕ, suc, ◌≤◌, ◌<◌}
 use mathlib.Core.Path.{◌≡◌, refl, sym, subst}
 use mathlib.Core.Bool.{Bool, true, false}
@@ -8,7 +10,6 @@ use native.Mathlib.Omega.{arith}
 use borrow.Author.Tests.{eq-eqb, ne_eqb}
 use Rattle.base_lists.specs.Bounded.{if_else}
 use Rattle.base_lists.proofs.Choices.{by_test}
-use Rattle.set_plan.specs.declared.Lookup.{Lookup}
 use Rattle.set_plan.specs.declared.Plan.{Plan}
 use Rattle.set_plan.specs.Profile.{sleeps}
 use Rattle.set_plan.specs.Rules.{plan_refusal}
@@ -28,11 +29,11 @@ use Rattle.bus_nodes.specs.Pulses.{any_called, receive_if, reach_all}
 use Rattle.bus.specs.Pulses.{spread}
 use Rattle.bus_nodes.specs.Ticks.{ticked_nodes, tick_callers}
 use Rattle.bus.specs.declared.Passed.{Passed}
-use Rattle.bus.specs.Passed.{ticked, asked, node_permits, result_of, slept}
+use Rattle.bus.specs.Passed.{ticked, asked, node_permits, slept}
 use Rattle.bus_nodes.specs.Nodes.{nodes_used, no_node, node_at}
 use Rattle.bus.specs.World.{power_on}
 use Rattle.bus_nodes.proofs.WhoCalls.{callers_some}
-use Rattle.bus_history.specs.Terms.{node_permitted, is_result}
+use Rattle.bus_history.specs.Terms.{node_permitted}
 use Rattle.bus_claims.proofs.EachNode as EachNode
 use Rattle.bus_claims.proofs.EachNode.{Each, over, one}
 use Rattle.bus_claims.proofs.Ticks.{on_for, off_for}
@@ -95,18 +96,18 @@ module _ (p : Plan) (ok : plan_refusal p ≡ 0) where
       (rw (eq-eqb k k refl) (run_permission p.times _ _ _ (node_at nodes k) (v.each k l) (sleeps p) times word))
       (λ i h e s. rw (ne_eqb k i (λ q. e (sym q))) s)
 
-  pub request_by_past : (row : Lookup) (reached : List Bool) (nodes : List Node) (past : List Passed) → NodesByPast p nodes past
+  pub request_by_past : (row : Option Row) (reached : List Bool) (nodes : List Node) (past : List Passed) → NodesByPast p nodes past
       → NodesByPast p (reach_all (Message.Request row) reached (nodes_used p.nodecount) nodes) past
   request_by_past row reached nodes past v =
       over p.nodecount few (λ i. NodeByPast p i past) (λ i. NodeByPast p i past) nodes v (λ k n. receive_if (get_or reached k false) (Message.Request row) k n)
       (λ i l s. by_test (NodeByPast p i past) (get_or reached i false) (λ h. run_request p.times _ _ _ (node_at nodes i) s (sleeps p) times i row) (λ h. s))
 
-  pub publisher_by_past : (k : ℕ) (row : Lookup) (nodes : List Node) (past : List Passed) → NodesByPast p nodes past → k < p.nodecount
+  pub publisher_by_past : (k : ℕ) (row : Option Row) (nodes : List Node) (past : List Passed) → NodesByPast p nodes past → k < p.nodecount
       → NodesByPast p (set nodes k (request_step k row (node_at nodes k)).node) past
   publisher_by_past k row nodes past v l =
       one p.nodecount few (λ i. NodeByPast p i past) (λ i. NodeByPast p i past) nodes v k (request_step k row (node_at nodes k)).node l (run_request p.times _ _ _ (node_at nodes k) (v.each k l) (sleeps p) times k row) (λ i h e s. s)
 
-  pub send_ask_by_past : (k : ℕ) (polled : Bool) (row : Lookup) (nodes : List Node) (past : List Passed) → NodesByPast p nodes past → k < p.nodecount
+  pub send_ask_by_past : (k : ℕ) (polled : Bool) (row : Option Row) (nodes : List Node) (past : List Passed) → NodesByPast p nodes past → k < p.nodecount
       → NodesByPast p (set nodes k (send_ask_step k polled row (node_at nodes k)).node) past
   send_ask_by_past k polled row nodes past v l =
       one p.nodecount few (λ i. NodeByPast p i past) (λ i. NodeByPast p i past) nodes v k (send_ask_step k polled row (node_at nodes k)).node l
@@ -116,12 +117,8 @@ module _ (p : Plan) (ok : plan_refusal p ≡ 0) where
       → NodesByPast p (reach_all Message.SleepMessage reached (nodes_used p.nodecount) nodes) (slept sent reached ∷ past)
   slept_by_past sent reached nodes past v =
       over p.nodecount few (λ i. NodeByPast p i past) (λ i. NodeByPast p i (slept sent reached ∷ past)) nodes v (λ k n. receive_if (get_or reached k false) Message.SleepMessage k n)
-      (λ i l s. rw (taken sent) (go i (get_or reached i false) s))
+      (λ i l s. go i (get_or reached i false) s)
     where
-      taken : (b : Bool) → is_result (result_of b) ≡ true
-      taken true = refl
-      taken false = refl
-
       go : (i : ℕ) (b : Bool) → NodeByPast p i past (node_at nodes i)
           → InRun p.times (node_permitted i past) (if_else b 0 (on_for i past)) (off_for past) (receive_if b Message.SleepMessage i (node_at nodes i))
       go i true s = run_sleep_message p.times _ _ _ (node_at nodes i) s true times

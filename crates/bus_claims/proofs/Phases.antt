@@ -1,4 +1,5 @@
 -- The master's phase, by what passed since the last sending.
+use Rattle.std.specs.Prelude.{Option, Some, None}
 use mathlib.Core.Path.{◌≡◌, refl, ap}
 use mathlib.Core.Bool.{Bool, true, false, not, ◌&&◌, ◌||◌}
 use mathlib.Core.List.{List, [], ◌∷◌}
@@ -9,7 +10,6 @@ use Rattle.machine_master.specs.declared.Master.{Master}
 use Rattle.machine_master.specs.declared.Phase.{Phase}
 use Rattle.machine_master.specs.Changes.{call_back_by, call_back}
 use Rattle.bus.specs.declared.Passed.{Passed}
-use Rattle.bus.specs.declared.SendResult.{SendResult}
 use Rattle.bus.specs.Passed.{ticked, slept}
 use Rattle.machine_master.specs.Clock.{is_closing}
 use Rattle.machine_master.proofs.InRun as InRun
@@ -140,10 +140,9 @@ unsent : (past : List Passed) → none has_result past ≡ true → none is_sent
 unsent [] h = refl
 unsent (e ∷ past) h = rw (here e.result (and_l (not (has_result e)) (none has_result past) h)) (unsent past (and_r (not (has_result e)) (none has_result past) h))
   where
-    here : (r : SendResult) → not (is_result r) ≡ true → was_sent r ≡ false
-    here SendResult.Unknown q = refl
-    here SendResult.Sent q = no_way q
-    here SendResult.Failed q = refl
+    here : (r : Option Bool) → not (is_result r) ≡ true → was_sent r ≡ false
+    here None q = refl
+    here (Some sent) q = no_way q
 
 pub result-shown : (sent : Bool) (reached : List Bool) (past : List Passed) → (none has_result (since is_sending past) ≡ true → none is_stop (since is_sending past) ≡ true) → awaits (phase_shown past) ≡ true
     → phase_shown (slept sent reached ∷ past) ≡ after_result sent (phase_shown past)

@@ -29,7 +29,7 @@ use Rattle.bus.specs.declared.Move.{Move}
 use Rattle.bus.specs.declared.Passed.{Passed}
 use Rattle.bus_history.specs.Run.{run}
 use Rattle.bus_history.specs.Terms.{since, is_answer_of, ticks_in, clock_left, since_on}
-use Rattle.bus_claims.specs.Reasons.{held_since, cause_since, first_missing, node_shown, under_way, owed, reason_shown, shown, ReasonShown}
+use Rattle.bus_claims.specs.Reasons.{held_since, cause_since, first_missing, node_shown, under_way, owed, reason_shown, ReasonShown}
 use Rattle.bus_claims.proofs.Awake.{run-awake}
 use Rattle.bus_claims.proofs.Causes.{given}
 use Rattle.bus_claims.proofs.ClaimsHold.{run_by_past}

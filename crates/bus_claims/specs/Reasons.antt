@@ -1,14 +1,15 @@
 -- W-205: "the reason is what the history from power-on shows", told by what passed in the moves. A past has its latest move first.
-use Rattle.std.specs.Prelude.{ℕ, ◌≡◌, Bool, false, not, ◌&&◌, ◌||◌, List, leb, ltb}
+use Rattle.std.specs.Prelude.{ℕ, ◌≡◌, Bool, false, not, ◌&&◌, ◌||◌, List, leb, ltb, Option, Some, None}
 use Rattle.base_lists.specs.Bounded.{if_else, first_to}
 use Rattle.set_plan.specs.declared.Plan.{Plan}
+use Rattle.set_plan.specs.declared.Row.{Row}
+use Rattle.machine_master.specs.declared.Answer.{Answer}
 use Rattle.set_plan.specs.Profile.{sleeps}
 use Rattle.machine_master.specs.Answers.{is_whole}
 use Rattle.machine_reason.specs.declared.Cause.{Cause}
-use Rattle.machine_reason.specs.declared.Explained.{Explained}
+use Rattle.machine_reason.specs.Reasons.{Explained}
 use Rattle.machine_reason.specs.declared.Reason.{Reason}
 use Rattle.machine_reason.specs.Reasons.{explained_by, refused, explain}
-use Rattle.bus.specs.declared.Arrival.{Arrival}
 use Rattle.bus.specs.declared.Move.{Move}
 use Rattle.bus.specs.declared.Passed.{Passed}
 use Rattle.bus_history.specs.Run.{run}
@@ -25,15 +26,15 @@ abbrev pub owed : List Passed → Bool
 owed past = some is_sending past && some is_call_back (since is_sending past) && none has_result (since is_sending past)
 
 -- by a node's last answer and what came after it: its permission is held
-abbrev pub held_by : ℕ → Arrival → List Passed → Bool
-held_by window Arrival.Nothing after = false
-held_by window (Arrival.Answer row a) after = is_whole row a && not a.wake && a.permission && (none is_wake_up after && leb (ticks_in after) window)
+abbrev pub held_by : ℕ → Option (Row × Answer) → List Passed → Bool
+held_by window None after = false
+held_by window (Some (row, a)) after = is_whole row a && not a.wake && a.permission && (none is_wake_up after && leb (ticks_in after) window)
 
 -- and why it is not: "damaged; with the wake bit, whatever its permission bit (wake); without permission (refused); with permission, and
 -- within the window a wake-up reached the master (wake), or the window ran out first (aged)"
-abbrev pub cause_by : ℕ → Arrival → List Passed → Cause
-cause_by window Arrival.Nothing after = Cause.New
-cause_by window (Arrival.Answer row a) after =
+abbrev pub cause_by : ℕ → Option (Row × Answer) → List Passed → Cause
+cause_by window None after = Cause.New
+cause_by window (Some (row, a)) after =
     if_else (is_whole row a)
     (if_else a.wake Cause.Woken
     (if_else a.permission (if_else (none is_wake_up (within window after)) Cause.Aged Cause.Woken) Cause.Refused))

@@ -1,4 +1,5 @@
 -- Each term of demand 3 and of W-205 on a computed list on which it is true, and on one a move or a tick away on which it is not.
+use Rattle.std.specs.Prelude.{Option, Some, None}
 use mathlib.Core.Path.{◌≡◌, refl}
 use mathlib.Core.Bool.{Bool, true, false}
 use mathlib.Core.List.{List, [], ◌∷◌, ◌++◌}
@@ -6,9 +7,9 @@ use Rattle.base_lists.specs.Bounded.{any_to, first_to, tab}
 use Rattle.set_plan.specs.Find.{has_reqid, row_among, find_row}
 use Rattle.machine_master.specs.Sleeping.{not_held}
 use Rattle.machine_master.specs.Ticks.{all_older}
+use Rattle.set_plan.specs.declared.Row.{Row}
 use Rattle.machine_master.specs.declared.Answer.{Answer}
 use Rattle.bus.specs.declared.Act.{Act}
-use Rattle.bus.specs.declared.Arrival.{Arrival}
 use Rattle.bus.specs.declared.Move.{Move}
 use Rattle.bus.specs.declared.Passed.{Passed}
 use Rattle.bus.specs.Passed.{nothing}
@@ -187,9 +188,9 @@ unfolding find_row row_among has_reqid first_to any_to not_held all_older tab
 lefts = (refl, refl, refl, refl, refl, refl, refl, refl, refl)
 
 -- the last answer of a node, and the part within a window of the moves since
-abbrev bit : Arrival → Bool
-bit Arrival.Nothing = false
-bit (Arrival.Answer row a) = a.permission
+abbrev bit : Option (Row × Answer) → Bool
+bit None = false
+bit (Some (row, a)) = a.permission
 
 lasts :
     (bit (last_answer 0 (past answering)) ≡ true)

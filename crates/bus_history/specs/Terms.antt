@@ -1,12 +1,10 @@
 -- The terms of demand 3 and of W-205's reasons, "told by the moves and what passed in them". A past has its latest move first.
-use Rattle.std.specs.Prelude.{ℕ, suc, Bool, true, false, not, ◌&&◌, ◌||◌, List, [], ◌∷◌, leb, eqb, get_or}
+use Rattle.std.specs.Prelude.{ℕ, suc, Bool, true, false, not, ◌&&◌, ◌||◌, List, [], ◌∷◌, leb, eqb, get_or, Option, Some, None}
 use Rattle.base_lists.specs.Bounded.{if_else}
 use Rattle.set_plan.specs.declared.Row.{Row}
 use Rattle.machine_master.specs.declared.Answer.{Answer}
 use Rattle.machine_master.specs.Answers.{is_whole}
-use Rattle.bus.specs.declared.Arrival.{Arrival}
 use Rattle.bus.specs.declared.Passed.{Passed}
-use Rattle.bus.specs.declared.SendResult.{SendResult}
 use Rattle.bus.specs.declared.PermissionChange.{PermissionChange}
 
 -- of every move of a past, and of none
@@ -26,29 +24,29 @@ since test [] = []
 since test (e ∷ past) = if_else (test e) [] (e ∷ since test past)
 
 -- "Permitted: the application's last permission move said yes; before any it is no": the master's ..
-abbrev pub master_said : PermissionChange → Bool → Bool
-master_said PermissionChange.Nobody before = before
-master_said (PermissionChange.Master permitted) before = permitted
-master_said (PermissionChange.Node node permitted) before = before
+abbrev pub master_said : Option PermissionChange → Bool → Bool
+master_said None before = before
+master_said (Some (PermissionChange.Master permitted)) before = permitted
+master_said (Some (PermissionChange.Node node permitted)) before = before
 
 abbrev pub master_permitted : List Passed → Bool
 master_permitted [] = false
 master_permitted (e ∷ past) = master_said e.permission (master_permitted past)
 
 -- .. and a node's
-abbrev pub node_said : ℕ → PermissionChange → Bool → Bool
-node_said i PermissionChange.Nobody before = before
-node_said i (PermissionChange.Master permitted) before = before
-node_said i (PermissionChange.Node node permitted) before = if_else (eqb node i) permitted before
+abbrev pub node_said : ℕ → Option PermissionChange → Bool → Bool
+node_said i None before = before
+node_said i (Some (PermissionChange.Master permitted)) before = before
+node_said i (Some (PermissionChange.Node node permitted)) before = if_else (eqb node i) permitted before
 
 abbrev pub node_permitted : ℕ → List Passed → Bool
 node_permitted i [] = false
 node_permitted i (e ∷ past) = node_said i e.permission (node_permitted i past)
 
 -- an answer that reached the master, and of which a test holds
-abbrev pub arrives : (Row → Answer → Bool) → Arrival → Bool
-arrives test Arrival.Nothing = false
-arrives test (Arrival.Answer row a) = test row a
+abbrev pub arrives : (Row → Answer → Bool) → Option (Row × Answer) → Bool
+arrives test None = false
+arrives test (Some (row, a)) = test row a
 
 abbrev pub is_answer : (Row → Answer → Bool) → Passed → Bool
 is_answer test e = arrives test e.arrival
@@ -97,10 +95,9 @@ abbrev pub is_ask : Passed → Bool
 is_ask e = e.asked
 
 -- a sleep message that reached a node, "with the result"
-abbrev pub is_result : SendResult → Bool
-is_result SendResult.Unknown = false
-is_result SendResult.Sent = true
-is_result SendResult.Failed = true
+abbrev pub is_result : Option Bool → Bool
+is_result None = false
+is_result (Some sent) = true
 
 abbrev pub reaches : ℕ → Passed → Bool
 reaches i e = is_result e.result && get_or e.slept i false
@@ -109,19 +106,18 @@ reaches i e = is_result e.result && get_or e.slept i false
 abbrev pub has_result : Passed → Bool
 has_result e = is_result e.result
 
-abbrev pub was_sent : SendResult → Bool
-was_sent SendResult.Unknown = false
-was_sent SendResult.Sent = true
-was_sent SendResult.Failed = false
+abbrev pub was_sent : Option Bool → Bool
+was_sent None = false
+was_sent (Some sent) = sent
 
 abbrev pub is_sent : Passed → Bool
 is_sent e = was_sent e.result
 
 -- the master's own no
-abbrev pub says_no : PermissionChange → Bool
-says_no PermissionChange.Nobody = false
-says_no (PermissionChange.Master permitted) = not permitted
-says_no (PermissionChange.Node node permitted) = false
+abbrev pub says_no : Option PermissionChange → Bool
+says_no None = false
+says_no (Some (PermissionChange.Master permitted)) = not permitted
+says_no (Some (PermissionChange.Node node permitted)) = false
 
 -- "A call-back is a wake-up, a damaged or refusing answer, or the master's own no"
 abbrev pub is_call_back : Passed → Bool
@@ -142,8 +138,8 @@ since_on [] = []
 since_on (e ∷ past) = if_else (switches_on e past) [] (e ∷ since_on past)
 
 -- the last answer of node i that reached the master
-abbrev pub last_answer : ℕ → List Passed → Arrival
-last_answer i [] = Arrival.Nothing
+abbrev pub last_answer : ℕ → List Passed → Option (Row × Answer)
+last_answer i [] = None
 last_answer i (e ∷ past) = if_else (is_answer_of i e) e.arrival (last_answer i past)
 
 -- the early part of a past that has at most n ticks

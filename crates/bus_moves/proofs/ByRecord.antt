@@ -1,27 +1,16 @@
 -- Laws of bytes as records.
-use Prim.Native.Nat.{ℕ, zero, suc, ◌+◌, ◌*◌, ◌-◌, ◌/◌, ◌≤◌, ◌<◌}
+use Prim.Native.Nat.{ℕ, zero, suc, ◌+◌, ◌*◌}
 use mathlib.Core.Path.{◌≡◌, refl, ap, ap₂, sym, ◌∙◌}
 use mathlib.Core.Bool.{◌&&◌}
 use mathlib.Core.List.{List, [], ◌∷◌, ◌++◌, map, append_assoc}
-use lib.ListN.{length, take, drop, drop_of_length-le, take-append-drop, length-append, length-drop}
-use lib.Seq.{take_all, take_at, take-nil, length-take-le, drop-append-add}
+use lib.ListN.{length, take, drop, take-append-drop, length-append, length-drop}
+use lib.Seq.{take_at, length-take-le, drop-append-add}
 use native.Mathlib.Omega.{arith}
 use Rattle.base_lists.specs.Bounded.{all_to, tab}
 use Rattle.base_lists.proofs.AllAny.{all_cut, all_ext}
 use Rattle.base_lists.proofs.Tables.{tab_ext}
 use Rattle.bus_moves.specs.Decoding.{is_move}
 use Rattle.bus_moves.specs.Records.{record_at, record_count, records, all_moves}
-
--- where record k begins past the end, and where the bytes end in it
-pub past_last : (s : List ℕ) (k : ℕ) → length s / 16 < k → record_at s k ≡ []
-past_last s k l =
-    let past : length s ≤ 16 * k = omega arith in
-    ap (take 16) (drop_of_length-le s past) ∙ take-nil 16
-
-pub last_record : (s : List ℕ) (k : ℕ) → length s / 16 ≡ k → take (length s - 16 * k) (drop (16 * k) s) ≡ record_at s k
-last_record s k e =
-    let size : length (drop (16 * k) s) ≡ length s - 16 * k = length-drop (16 * k) s in
-    take_all (length s - 16 * k) (drop (16 * k) s) (omega arith) ∙ sym (take_all 16 (drop (16 * k) s) (omega arith))
 
 -- tests and tables over the records by their numbers
 pub tab_last : {A : Type 0} (k : ℕ) (f : ℕ → A) → tab (suc k) f ≡ tab k f ++ (f k ∷ [])

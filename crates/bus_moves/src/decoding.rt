@@ -7,6 +7,7 @@ use crate::MOVE_LENGTH;
 use base_bytes::{byte_at, number_at};
 use bus::{Act, Bus, Damage, Fate, Move};
 use set_plan::Plan;
+use std::array;
 
 // Whether node i is in a set of nodes, bit 0 the lowest.
 fn flag_at(mask: u16, i: usize) -> bool
@@ -20,46 +21,26 @@ fn flag_at(mask: u16, i: usize) -> bool
 fn flags(mask: u16) -> [bool; Plan::NODES]
     ensures { result ≡ flags mask }
 {
-    let mut set = [false; Plan::NODES];
-    let mut i: usize = 0;
-    while i < Plan::NODES {
-        set[i] = flag_at(mask, i);
-        i += 1;
-    }
-    set
+    array::from_fn(|i| flag_at(mask, i))
 }
 
 fn act_of(kind: u8, node: u8, value: u8) -> Act
     ensures { result ≡ act_of kind node value }
 {
-    if kind == 0 {
-        return Act::Tick;
-    }
-    if kind == 1 {
-        return Act::NodeWakeAsk(node);
-    }
-    if kind == 2 {
-        return Act::MasterWakeAsk;
-    }
-    if kind == 3 {
-        return Act::NodePermission {
+    match kind {
+        0 => Act::Tick,
+        1 => Act::NodeWakeAsk(node),
+        2 => Act::MasterWakeAsk,
+        3 => Act::NodePermission {
             node,
             permitted: value == 1,
-        };
+        },
+        4 => Act::MasterPermission(value == 1),
+        5 => Act::Request(value),
+        6 => Act::SendAsk { node, reqid: value },
+        7 => Act::SleepAsk,
+        _ => Act::SendResult(value == 1),
     }
-    if kind == 4 {
-        return Act::MasterPermission(value == 1);
-    }
-    if kind == 5 {
-        return Act::Request(value);
-    }
-    if kind == 6 {
-        return Act::SendAsk { node, reqid: value };
-    }
-    if kind == 7 {
-        return Act::SleepAsk;
-    }
-    Act::SendResult(value == 1)
 }
 
 fn damage_of(bytes: &[u8]) -> Damage
@@ -77,27 +58,21 @@ fn damage_of(bytes: &[u8]) -> Damage
 fn fate_of(fate: u8, damage: Damage) -> Fate
     ensures { result ≡ fate_of fate damage }
 {
-    if fate == 0 {
-        return Fate::Whole(damage.length);
+    match fate {
+        0 => Fate::Whole(damage.length),
+        1 => Fate::Damaged(damage),
+        _ => Fate::Lost,
     }
-    if fate == 1 {
-        return Fate::Damaged(damage);
-    }
-    Fate::Lost
 }
 
 fn bus_of(bytes: &[u8]) -> Bus
     ensures { result ≡ bus_of bytes.now }
 {
-    let reached = flags(number_at(bytes, 4));
-    let hearing = flags(number_at(bytes, 6));
-    let damage = damage_of(bytes);
-    let fate = fate_of(byte_at(bytes, 3), damage);
     Bus {
-        reached,
-        hearing,
+        reached: flags(number_at(bytes, 4)),
+        hearing: flags(number_at(bytes, 6)),
         master: byte_at(bytes, 8) == 1,
-        fate,
+        fate: fate_of(byte_at(bytes, 3), damage_of(bytes)),
     }
 }
 
@@ -105,15 +80,16 @@ fn bus_of(bytes: &[u8]) -> Bus
 pub fn move_of(bytes: &[u8]) -> Move
     ensures { result ≡ move_of bytes.now }
 {
-    let act = act_of(byte_at(bytes, 0), byte_at(bytes, 1), byte_at(bytes, 2));
-    let bus = bus_of(bytes);
-    Move { act, bus }
+    Move {
+        act: act_of(byte_at(bytes, 0), byte_at(bytes, 1), byte_at(bytes, 2)),
+        bus: bus_of(bytes),
+    }
 }
 
 fn has_flag(kind: u8) -> bool
     ensures { result ≡ has_flag kind }
 {
-    (kind == 3) | (kind == 4) | (kind == 8)
+    matches!(kind, 3 | 4 | 8)
 }
 
 // Whether bytes are the record of a move.

@@ -16,14 +16,16 @@
 #![tactic(auto)]
 
 ghost use Rattle.std.specs.Prelude.{◌≡◌};
+ghost use Rattle.base_refusals.specs.Numbers.{number};
 ghost use Rattle.bus.specs.World.{power_on};
 ghost use Rattle.bus_claims.specs.Claims.{Claims};
 ghost use Rattle.bus_claims.specs.Reasons.{ReasonShown};
 ghost use Rattle.bus_moves.specs.Records.{moves_of};
 ghost use Rattle.bus_moves.specs.Lists.{step_of, ran_to, ran_over, run_of};
 
+use base_refusals::Refusal;
 use bus::{Moved, World, stays};
-use set_plan::{Plan, plan_refusal};
+use set_plan::{Plan, judge};
 
 mod decoding;
 mod records;
@@ -34,7 +36,7 @@ pub use records::{record_at, record_count};
 // The bytes of a record.
 pub const MOVE_LENGTH: usize = 16;
 
-// The machines after a list of moves, or why it did not run.
+// The machines after a list of moves, or why it did not run. No Result: a refused run gives the machines at power-on too (`run_of`).
 #[derive(Clone, Copy)]
 pub struct Ran {
     pub refusal: u8,
@@ -45,28 +47,23 @@ pub struct Ran {
 pub fn step(plan: Plan, world: World, bytes: &[u8]) -> Moved
     ensures { result ≡ step_of plan world bytes.now }
 {
-    let refusal = plan_refusal(plan);
-    if refusal == 0 {
-        let times = plan.times;
-        if world.in_range(plan.sleeps(), plan.nodecount, times) {
-            if is_move(bytes) {
-                world.act(plan, move_of(bytes))
-            } else {
-                stays(world, 15)
-            }
-        } else {
-            stays(world, 11)
-        }
-    } else {
-        stays(world, refusal)
+    if let Err(refusal) = judge(plan) {
+        return stays(world, refusal);
     }
+    if !world.in_range(plan.sleeps(), plan.nodecount, plan.times) {
+        return stays(world, Refusal::NoState);
+    }
+    if !is_move(bytes) {
+        return stays(world, Refusal::NoEvent);
+    }
+    world.act(plan, move_of(bytes))
 }
 
-fn refused(refusal: u8, sleeps: bool) -> Ran
-    ensures { result ≡ ran_to refusal (power_on sleeps) }
+fn refused(refusal: Refusal, sleeps: bool) -> Ran
+    ensures { result ≡ ran_to (number refusal) (power_on sleeps) }
 {
     Ran {
-        refusal,
+        refusal: refusal.number(),
         world: World::power_on(sleeps),
     }
 }
@@ -75,29 +72,24 @@ fn refused(refusal: u8, sleeps: bool) -> Ran
 fn run_all(plan: Plan, moves: &[u8]) -> Ran
     ensures { result ≡ ran_over plan moves.now }
 {
-    let count = record_count(moves);
     let mut world = World::power_on(plan.sleeps());
-    let mut k: usize = 0;
-    while k < count {
+    for k in 0..record_count(moves) {
         let bytes = record_at(moves, k);
         if !is_move(bytes) {
-            return refused(15, plan.sleeps());
+            return refused(Refusal::NoEvent, plan.sleeps());
         }
-        let moved = world.act(plan, move_of(bytes));
-        world = moved.world;
-        k += 1;
+        world = world.act(plan, move_of(bytes)).world;
     }
     Ran { refusal: 0, world }
 }
 
-// The world after a list of moves; demand 3 holds of it, and the reason told of its master is the one that the list shows. 3 to 8 for a refused plan, 15 for bytes that are no list of moves.
+// The world after a list of moves; demand 3 holds of it, and the reason told of its master is the one that the list shows.
+// 3 to 8 for a refused plan, 15 for bytes that are no list of moves.
 pub fn run(plan: Plan, moves: &[u8]) -> Ran
     ensures { (result ≡ run_of plan moves.now) × (result.refusal ≡ 0 → Claims plan (moves_of moves.now) × ReasonShown plan (moves_of moves.now)) }
 {
-    let refusal = plan_refusal(plan);
-    if refusal == 0 {
-        run_all(plan, moves)
-    } else {
-        refused(refusal, true)
+    match judge(plan) {
+        Ok(()) => run_all(plan, moves),
+        Err(refusal) => refused(refusal, true),
     }
 }

@@ -1,4 +1,3 @@
 pub mod EachOne
-pub mod Nodes
 pub mod Resting
 pub mod WhoCalls

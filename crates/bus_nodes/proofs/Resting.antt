@@ -1,4 +1,6 @@
 -- Nodes at rest are left as they are by a tick, and nodes that ignore a message by it.
+use Rattle.set_plan.specs.declared.Row.{Row}
+use Rattle.std.specs.Prelude.{Option, Some, None}
 use Prim.Native.Nat.{ℕ}
 use mathlib.Core.Path.{◌≡◌, refl, ap₂, sym, subst}
 use mathlib.Core.Bool.{Bool, true, false, not, ◌||◌, and-eq-true_iff}
@@ -7,9 +9,7 @@ use borrow.Author.Tests.{eqb-true, not-true}
 use Rattle.base_lists.proofs.Choices.{by_test, no_way}
 use Rattle.machine_state.specs.declared.State.{State}
 use Rattle.machine_state.specs.State.{is_normal}
-use Rattle.set_plan.specs.declared.Lookup.{Lookup}
 use Rattle.set_plan.specs.declared.Times.{Times}
-use Rattle.machine_node.specs.declared.Delay.{Delay}
 use Rattle.machine_node.specs.declared.Node.{Node}
 use Rattle.machine_node.specs.declared.Reply.{Reply}
 use Rattle.machine_node.specs.Changes.{with_quiet, silent}
@@ -20,12 +20,12 @@ use Rattle.bus_nodes.specs.declared.Message.{Message}
 use Rattle.bus_nodes.specs.Pulses.{other_called, receive, receive_if}
 use Rattle.bus_nodes.specs.Resting.{rests_by, rests, ignores_row, ignores, untouched}
 
-normal_still : (sleeps : Bool) (t : Times) (clock : Bool) (delay : Delay) (n : Node) → rests_by clock State.Normal delay n ≡ true → normal_by sleeps t clock delay n ≡ silent n
-normal_still sleeps t false Delay.Off n e = no_way e
-normal_still sleeps t true Delay.Off n e =
+normal_still : (sleeps : Bool) (t : Times) (clock : Bool) (delay : Option ℕ) (n : Node) → rests_by clock State.Normal delay n ≡ true → normal_by sleeps t clock delay n ≡ silent n
+normal_still sleeps t false None n e = no_way e
+normal_still sleeps t true None n e =
     let h = (and-eq-true_iff (not n.error) (eqb n.quiet 0)).0 e in
     ap₂ (λ ticks error. silent (with_quiet ticks error n)) (sym (eqb-true n.quiet 0 h.1)) (sym (not-true n.error h.0))
-normal_still sleeps t clock (Delay.On ticks) n e = no_way e
+normal_still sleeps t clock (Some ticks) n e = no_way e
 
 still_by : (sleeps : Bool) (t : Times) (clock : Bool) (state : State) (n : Node) → rests_by clock state n.delay n ≡ true → tick_by sleeps t clock state n ≡ silent n
 still_by sleeps t clock State.Normal n e = normal_still sleeps t clock n.delay n e
@@ -46,9 +46,9 @@ in_normal_still State.Normal n reply f = f refl
 in_normal_still State.Standby n reply f = refl
 in_normal_still State.Sleep n reply f = refl
 
-row_still : (row : Lookup) (me : ℕ) (n : Node) → ignores_row row me n ≡ true → (request_row me row n).node ≡ n
-row_still Lookup.Missing me n e = refl
-row_still (Lookup.Found row) me n e =
+row_still : (row : Option Row) (me : ℕ) (n : Node) → ignores_row row me n ≡ true → (request_row me row n).node ≡ n
+row_still None me n e = refl
+row_still (Some row) me n e =
     let h = (and-eq-true_iff n.heard (not (eqb row.publisher me))).0 e in
     rw (not-true (eqb row.publisher me) h.1, ← h.0)
 

@@ -1,9 +1,8 @@
 -- The nodes of a bus as a table of sixteen places, of which a plan uses the first.
-use Rattle.std.specs.Prelude.{ℕ, min, Bool, false, List, [], get_or}
+use Rattle.std.specs.Prelude.{ℕ, min, Bool, false, List, [], get_or, None}
 use Rattle.machine_state.specs.declared.State.{State}
 use Rattle.set_plan.specs.declared.Times.{Times}
 use Rattle.set_plan.specs.Limits.{max_nodes}
-use Rattle.machine_node.specs.declared.Delay.{Delay}
 use Rattle.machine_node.specs.declared.Node.{Node}
 use Rattle.machine_node.specs.Range.{in_range}
 
@@ -22,7 +21,7 @@ no_node =
       heard = false;
       caller = false;
       quiet = 0;
-      delay = Delay.Off;
+      delay = None;
       standby = 0;
       counts = [];
     }

@@ -1,16 +1,15 @@
 -- Nodes that a tick or a message leaves as they are: the code does not copy them.
-use Rattle.std.specs.Prelude.{ℕ, Bool, true, false, not, ◌&&◌, ◌||◌, eqb}
+use Rattle.set_plan.specs.declared.Row.{Row}
+use Rattle.std.specs.Prelude.{ℕ, Bool, true, false, not, ◌&&◌, ◌||◌, eqb, Option, Some, None}
 use Rattle.machine_state.specs.declared.State.{State}
 use Rattle.machine_state.specs.State.{is_normal}
-use Rattle.set_plan.specs.declared.Lookup.{Lookup}
-use Rattle.machine_node.specs.declared.Delay.{Delay}
 use Rattle.machine_node.specs.declared.Node.{Node}
 use Rattle.bus_nodes.specs.declared.Message.{Message}
 
 -- in Normal with clock and nothing to clear or to count, or asleep without clock
-abbrev pub rests_by : Bool → State → Delay → Node → Bool
-rests_by clock State.Normal Delay.Off n = clock && not n.error && eqb n.quiet 0
-rests_by clock State.Normal (Delay.On ticks) n = false
+abbrev pub rests_by : Bool → State → Option ℕ → Node → Bool
+rests_by clock State.Normal None n = clock && not n.error && eqb n.quiet 0
+rests_by clock State.Normal (Some ticks) n = false
 rests_by clock State.Standby delay n = false
 rests_by clock State.Sleep delay n = not clock
 
@@ -19,9 +18,9 @@ abbrev pub rests : Bool → Node → Bool
 rests clock n = rests_by clock n.state n.delay n
 
 -- a request in Normal: of no row, or of another's after one was heard
-abbrev pub ignores_row : Lookup → ℕ → Node → Bool
-ignores_row Lookup.Missing me n = true
-ignores_row (Lookup.Found row) me n = n.heard && not (eqb row.publisher me)
+abbrev pub ignores_row : Option Row → ℕ → Node → Bool
+ignores_row None me n = true
+ignores_row (Some row) me n = n.heard && not (eqb row.publisher me)
 
 -- a message that reaches node `me` leaves it as it is (ignores_still in proofs/Resting.antt)
 abbrev pub ignores : Message → ℕ → Node → Bool

@@ -5,7 +5,7 @@ ghost use Rattle.std.specs.Prelude.{◌≡◌};
 ghost use Rattle.bus_nodes.specs.Nodes.{nodes_used};
 
 use machine_node::Node;
-use set_plan::{Lookup, Plan};
+use set_plan::{Plan, Row};
 
 mod pulses;
 mod range;
@@ -16,7 +16,7 @@ pub use range::nodes_in_range;
 pub use ticks::tick_nodes;
 
 // The nodes that sent a wake-up pulse in a move.
-#[derive(Clone, Copy)]
+#[derive(Clone, Copy, PartialEq, Eq)]
 pub enum Callers {
     Nobody,
     One(u8),
@@ -28,7 +28,7 @@ pub enum Callers {
 pub enum Message {
     Pulse(Callers),
     // a request, with what the plan has for its ReqId
-    Request(Lookup),
+    Request(Option<Row>),
     SleepMessage,
 }
 
@@ -43,9 +43,5 @@ pub struct Ticked {
 pub fn nodes_used(nodecount: u8) -> u8
     ensures { result ≡ nodes_used nodecount }
 {
-    if (nodecount as usize) < Plan::NODES {
-        nodecount
-    } else {
-        Plan::NODES as u8
-    }
+    nodecount.min(Plan::NODES as u8)
 }

@@ -7,34 +7,22 @@ ghost use Rattle.bus_nodes.specs.Resting.{ignores_row, ignores, untouched};
 use crate::{Callers, Message, nodes_used};
 use machine_node::{Command, Node};
 use machine_state::is_normal;
-use set_plan::{Lookup, Plan};
+use set_plan::{Plan, Row};
 
 pub fn with_caller(callers: Callers, node: u8, command: Command) -> Callers
     ensures { result ≡ with_caller callers node command }
 {
-    match command {
-        Command::Nothing => callers,
-        Command::Send {
-            permission: _,
-            wake: _,
-            count: _,
-        } => callers,
-        Command::Pulse => match callers {
-            Callers::Nobody => Callers::One(node),
-            Callers::One(_) => Callers::Several,
-            Callers::Several => Callers::Several,
-        },
+    match (command, callers) {
+        (Command::Nothing | Command::Send { .. }, _) => callers,
+        (Command::Pulse, Callers::Nobody) => Callers::One(node),
+        (Command::Pulse, _) => Callers::Several,
     }
 }
 
 pub fn any_called(callers: Callers) -> bool
     ensures { result ≡ any_called callers }
 {
-    match callers {
-        Callers::Nobody => false,
-        Callers::One(_) => true,
-        Callers::Several => true,
-    }
+    callers != Callers::Nobody
 }
 
 fn other_called(callers: Callers, node: u8) -> bool
@@ -42,7 +30,7 @@ fn other_called(callers: Callers, node: u8) -> bool
 {
     match callers {
         Callers::Nobody => false,
-        Callers::One(caller) => !(caller == node),
+        Callers::One(caller) => caller != node,
         Callers::Several => true,
     }
 }
@@ -51,42 +39,26 @@ fn receive(node: Node, me: u8, message: Message) -> Node
     ensures { result ≡ receive message me node }
 {
     match message {
-        Message::Pulse(callers) => {
-            if other_called(callers, me) {
-                let reply = node.pulse();
-                reply.node
-            } else {
-                node
-            }
-        }
-        Message::Request(row) => {
-            let reply = node.request(me, row);
-            reply.node
-        }
-        Message::SleepMessage => {
-            // a master sends one only where machines sleep
-            let reply = node.sleep_message(true);
-            reply.node
-        }
+        Message::Pulse(callers) if other_called(callers, me) => node.pulse().node,
+        Message::Pulse(_) => node,
+        Message::Request(row) => node.request(me, row).node,
+        // a master sends one only where machines sleep
+        Message::SleepMessage => node.sleep_message(true).node,
     }
 }
 
 // Whether a request leaves node `me` in Normal as it is: of no row, or of another's after one was heard.
-fn ignores_row(node: Node, me: u8, row: Lookup) -> bool
+fn ignores_row(node: Node, me: u8, row: Option<Row>) -> bool
     ensures { result ≡ ignores_row row me node }
 {
-    match row {
-        Lookup::Missing => true,
-        Lookup::Found(found) => node.heard & !(found.publisher == me),
-    }
+    row.is_none_or(|found| node.heard & (found.publisher != me))
 }
 
 // Whether a message that reaches node `me` leaves it as it is.
 fn ignores(node: Node, me: u8, message: Message) -> bool
     ensures { result ≡ ignores message me node }
 {
-    let state = node.state;
-    let normal = is_normal(state);
+    let normal = is_normal(node.state);
     match message {
         Message::Pulse(_) => normal,
         Message::Request(row) => !normal | ignores_row(node, me, row),
@@ -111,16 +83,11 @@ pub fn reach_all(
 ) -> [Node; Plan::NODES]
     ensures { result ≡ reach_all message reached (nodes_used nodecount) nodes }
 {
-    let count = nodes_used(nodecount);
-    let mut i: u8 = 0;
-    while i < count {
+    for i in 0..nodes_used(nodecount) {
         if untouched(reached[i as usize], nodes[i as usize], i, message) {
-            i += 1;
             continue;
         }
-        let node = nodes[i as usize];
-        nodes[i as usize] = receive(node, i, message);
-        i += 1;
+        nodes[i as usize] = receive(nodes[i as usize], i, message);
     }
     nodes
 }

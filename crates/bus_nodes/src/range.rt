@@ -10,14 +10,7 @@ use set_plan::{Plan, Times};
 pub fn nodes_in_range(nodes: [Node; Plan::NODES], sleeps: bool, nodecount: u8, times: Times) -> bool
     ensures { result ≡ all_to (node_in_range sleeps times nodes) (nodes_used nodecount) }
 {
-    let count = nodes_used(nodecount);
-    let mut i: u8 = 0;
-    while i < count {
-        let node = nodes[i as usize];
-        if !node.in_range(sleeps, times) {
-            return false;
-        }
-        i += 1;
-    }
-    true
+    nodes[..usize::from(nodes_used(nodecount))]
+        .iter()
+        .all(|node| node.in_range(sleeps, times))
 }

@@ -6,7 +6,7 @@ ghost use Rattle.bus_nodes.specs.Ticks.{tick_nodes};
 
 use crate::pulses::with_caller;
 use crate::{Callers, Ticked, nodes_used};
-use machine_node::{Delay, Node};
+use machine_node::Node;
 use machine_state::State;
 use set_plan::{Plan, Times};
 
@@ -14,15 +14,10 @@ use set_plan::{Plan, Times};
 fn rests(node: Node, clock: bool) -> bool
     ensures { result ≡ rests clock node }
 {
-    let state = node.state;
-    let delay = node.delay;
-    match state {
-        State::Normal => match delay {
-            Delay::Off => clock & !node.error & (node.quiet == 0),
-            Delay::On(_) => false,
-        },
-        State::Standby => false,
-        State::Sleep => !clock,
+    match (node.state, node.delay) {
+        (State::Normal, None) => clock & !node.error & (node.quiet == 0),
+        (State::Normal, Some(_)) | (State::Standby, _) => false,
+        (State::Sleep, _) => !clock,
     }
 }
 
@@ -36,21 +31,14 @@ pub fn tick_nodes(
 ) -> Ticked
     ensures { result ≡ tick_nodes sleeps times clock (nodes_used nodecount) nodes }
 {
-    let count = nodes_used(nodecount);
     let mut callers = Callers::Nobody;
-    let mut i: u8 = 0;
-    while i < count {
+    for i in 0..nodes_used(nodecount) {
         if rests(nodes[i as usize], clock) {
-            i += 1;
             continue;
         }
-        let node = nodes[i as usize];
-        let reply = node.tick(sleeps, times, clock);
-        let command = reply.command;
-        callers = with_caller(callers, i, command);
-        let next = reply.node;
-        nodes[i as usize] = next;
-        i += 1;
+        let reply = nodes[i as usize].tick(sleeps, times, clock);
+        callers = with_caller(callers, i, reply.command);
+        nodes[i as usize] = reply.node;
     }
     Ticked { nodes, callers }
 }

@@ -17,7 +17,7 @@ use Rattle.set_plan.specs.Profile.{sleeps}
 use Rattle.set_plan.specs.Rules.{plan_refusal}
 use Rattle.set_record.specs.Record.{record_of, record_bytes}
 use Rattle.set_record.proofs.Records.{zero_bytes}
-use Rattle.set_reader.specs.declared.ReadResult.{ReadResult}
+use Rattle.set_reader.specs.Read.{ReadResult}
 use Rattle.set_reader.specs.Read.{set_refusal, read_set}
 use Rattle.set_reader.proofs.ReadResults.{read_record_back}
 use Rattle.set_writer.specs.Write.{write_set}

@@ -9,7 +9,7 @@ use native.Mathlib.Omega.{arith}
 use borrow.Author.Tests.{eq-eqb, ne_eqb}
 use Rattle.base_lists.proofs.Choices.{by_test}
 use Rattle.set_plan.specs.declared.Plan.{Plan}
-use Rattle.set_writer.specs.declared.WriteResult.{WriteResult}
+use Rattle.set_writer.specs.Write.{WriteResult}
 use Rattle.set_writer.specs.Write.{set_length, write_refusal, write_result}
 use Rattle.machine_node.specs.declared.Reply as NodeReply
 use Rattle.machine_master.specs.declared.Reply as MasterReply

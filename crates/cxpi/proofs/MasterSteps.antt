@@ -1,4 +1,5 @@
 -- A step of the master, by the way that its code takes.
+use Rattle.std.specs.Prelude.{Some, None}
 use Prim.Native.Nat.{ℕ, ◌+◌, ◌≤◌, ◌<◌}
 use mathlib.Core.Path.{◌≡◌, refl, sym, ◌∙◌, ap, subst}
 use mathlib.Core.Bool.{true, false}
@@ -22,7 +23,6 @@ use Rattle.packed_master.specs.Replies.{replied}
 use Rattle.packed_master.specs.States.{master_of}
 use Rattle.packed_master.specs.Events.{event_of}
 use Rattle.packed_master.proofs.StateTrips.{range_long, range_packed}
-use Rattle.packed_master_steps.specs.declared.Outcome.{Outcome}
 use Rattle.packed_master_steps.specs.InPlace.{outcome, leaves}
 use Rattle.packed_master_steps.proofs.Outcomes.{written, done, left}
 use Rattle.cxpi.specs.MasterCalls.{master_reply, changes_state, master_leaves, master_replies}
@@ -69,14 +69,14 @@ module _ (p : Plan) (state reply : List ℕ) (event : Event) where
   master_out o number said f = rw o (f.0, refl, f.1)
 
   module _ (right : in_range (sleeps p) p.nodecount p.times (master_of state) ≡ true) (middle : List ℕ) (w : middle ≡ leaves p state event) where
-    pub master_in_place : plan_refusal p ≡ 0 → ((o : ℕ) → byte state o < 256) → (lost number : ℕ) (said : List ℕ) → outcome p state event ≡ Outcome.Done lost
+    pub master_in_place : plan_refusal p ≡ 0 → ((o : ℕ) → byte state o < 256) → (lost number : ℕ) (said : List ℕ) → outcome p state event ≡ Some lost
         → (number ≡ 0) × (said ≡ replied Command.Nothing lost 0 reply) → Under number middle said
     master_in_place ok bytes lost number said o f =
         let does = done p state ok right (range_packed (sleeps p) p.nodecount p.times state right bytes) event lost o in
         let long = range_long (sleeps p) p.nodecount p.times state right in
         rw does.step (f.0, w ∙ does.bytes ∙ sym (written state does.next long does.sized), f.1)
 
-    pub master_left : (given : Reply) (number : ℕ) (after said : List ℕ) → outcome p state event ≡ Outcome.Left
+    pub master_left : (given : Reply) (number : ℕ) (after said : List ℕ) → outcome p state event ≡ None
         → given ≡ step_in_range (sleeps p) p.nodecount p.times (row_asked p event) (master_of state) event
         → Gives given middle reply number after said → Under number after said
     master_left given number after said o is f =

@@ -1,7 +1,7 @@
 -- What the call on a node's configuration returns and leaves.
 use Rattle.std.specs.Prelude.{ℕ, List, length, eqb}
 use Rattle.base_lists.specs.Bounded.{if_else}
-use Rattle.machine_node_configuration.specs.declared.Reply.{Reply}
+use Rattle.machine_node_configuration.specs.Responses.{Reply}
 use Rattle.machine_node_configuration.specs.Offsets.{identity_length}
 use Rattle.machine_node_configuration.specs.Identity.{identity_of}
 use Rattle.machine_node_configuration.specs.Responses.{refuse, configured, responded}

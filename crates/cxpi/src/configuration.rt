@@ -2,6 +2,7 @@
 ghost use Rattle.std.specs.Prelude.{◌≡◌, length};
 ghost use Rattle.cxpi.specs.ConfigurationCalls.{configure_reply, configure_leaves};
 
+use base_refusals::Refusal;
 use machine_node_configuration::{configure, identity_of};
 
 pub fn cxpi_node_configure(
@@ -16,12 +17,16 @@ pub fn cxpi_node_configure(
         × (response.new ≡ configure_leaves identity.now request.now response.old)
         × (written.new ≡ (configure_reply identity.now address.old request.now (length response.old)).length) }
 {
+    *written = 0;
     if identity.len() != machine_node_configuration::IDENTITY_LENGTH {
-        *written = 0;
-        return 11;
+        return Refusal::NoState.number() as u32;
     }
-    let reply = configure(identity_of(identity), *address, request, response);
-    *address = reply.address;
-    *written = reply.length;
-    reply.refusal as u32
+    match configure(identity_of(identity), *address, request, response) {
+        Ok(done) => {
+            *address = done.address;
+            *written = done.length;
+            0
+        }
+        Err(refusal) => refusal.number() as u32,
+    }
 }

@@ -1,5 +1,6 @@
 // Calls on the master.
 ghost use Rattle.std.specs.Prelude.{◌≡◌, length};
+ghost use Rattle.base_refusals.specs.Numbers.{number};
 ghost use Rattle.set_plan.specs.Rules.{plan_refusal};
 ghost use Rattle.set_record.specs.Record.{record_of};
 ghost use Rattle.machine_master.specs.declared.Command.{Command};
@@ -10,34 +11,36 @@ ghost use Rattle.packed_master.specs.States.{master_of};
 ghost use Rattle.cxpi.specs.PowerOn.{start_refusal};
 ghost use Rattle.cxpi.specs.MasterCalls.{master_on, master_reply, changes_state, master_leaves, master_replies};
 
-use crate::power_on::start_refusal;
+use crate::power_on;
+use base_refusals::Refusal;
 use machine_master::{Command, Event, Reply};
 use packed_master::{event_of, master_of, put_master, put_power_on, put_reply, row_for};
-use packed_master_steps::{Outcome, step_in_place};
+use packed_master_steps::step_in_place;
 
 pub fn cxpi_master_power_on(plan: &[u8], state: &mut [u8]) -> u32
     ensures { (result ≡ start_refusal master_length plan.now (length state.old)) × (state.new ≡ master_on plan.now state.old) }
 {
-    let refusal = start_refusal(packed_master::LENGTH, plan, state.len());
-    if refusal != 0 {
-        return refusal as u32;
+    if let Err(refusal) = power_on::judge(packed_master::LENGTH, plan, state.len()) {
+        return refusal.number() as u32;
     }
     put_power_on(state, set_record::sleeps(plan));
     0
 }
 
 // Writes a reply that commands nothing and names no node.
-fn answered(reply: &mut [u8], refusal: u8, lost: u8) -> u32
-    ensures { (result ≡ refusal) × (reply.new ≡ replied Command.Nothing lost 0 reply.old) }
+fn refused(reply: &mut [u8], refusal: Refusal) -> u32
+    ensures { (result ≡ number refusal) × (reply.new ≡ replied Command.Nothing 0 0 reply.old) }
 {
-    put_reply(reply, Command::Nothing, lost, 0);
-    refusal as u32
+    put_reply(reply, Command::Nothing, 0, 0);
+    refusal.number() as u32
 }
 
 fn changes_state(refusal: u8) -> bool
     ensures { result ≡ changes_state refusal }
 {
-    (refusal == 0) | (refusal == 13) | (refusal == 14)
+    (refusal == 0)
+        | (refusal == Refusal::Damaged.number())
+        | (refusal == Refusal::WrongLength.number())
 }
 
 // Writes what the machine gives.
@@ -65,19 +68,22 @@ fn step_under(plan: &[u8], state: &mut [u8], event: Event, reply: &mut [u8]) -> 
 {
     // No state. The compiler, told the length, spares the tests of each byte.
     if state.len() != packed_master::LENGTH {
-        return answered(reply, 11, 0);
+        return refused(reply, Refusal::NoState);
     }
     let master = master_of(state);
     let times = set_record::times_of(plan);
     let sleeps = set_record::sleeps(plan);
     let nodes = set_record::node_count(plan);
     if !master.in_range(sleeps, nodes, times) {
-        return answered(reply, 11, 0);
+        return refused(reply, Refusal::NoState);
     }
     let outcome = step_in_place(plan, state, event);
     match outcome {
-        Outcome::Done(lost) => answered(reply, 0, lost),
-        Outcome::Left => {
+        Some(lost) => {
+            put_reply(reply, Command::Nothing, lost, 0);
+            0
+        }
+        None => {
             let row = row_for(plan, event);
             let given = master.step_in_range(sleeps, nodes, times, row, event);
             give(given, state, reply)
@@ -91,12 +97,11 @@ pub fn cxpi_master_step(plan: &[u8], state: &mut [u8], event: &[u8], reply: &mut
         × (state.new ≡ master_leaves (master_reply plan.now state.old event.now (length reply.old)) state.old)
         × (reply.new ≡ master_replies (master_reply plan.now state.old event.now (length reply.old)) reply.old) }
 {
-    let refusal = set_record::refusal_of(plan);
-    if refusal != 0 {
-        return answered(reply, refusal, 0);
+    if let Err(refusal) = set_record::judge(plan) {
+        return refused(reply, refusal);
     }
     if reply.len() < packed_master::REPLY_LENGTH {
-        return 10;
+        return Refusal::BufferShort.number() as u32;
     }
     step_under(plan, state, event_of(event), reply)
 }

@@ -1,5 +1,6 @@
 // Calls on a node.
 ghost use Rattle.std.specs.Prelude.{◌≡◌, true, length};
+ghost use Rattle.base_refusals.specs.Numbers.{number};
 ghost use Rattle.set_record.specs.Record.{record_of};
 ghost use Rattle.machine_node.specs.Step.{row_asked};
 ghost use Rattle.machine_node.specs.Changes.{power_on, refuse};
@@ -7,58 +8,49 @@ ghost use Rattle.packed_node.specs.Offsets.{node_length};
 ghost use Rattle.cxpi.specs.PowerOn.{start_refusal};
 ghost use Rattle.cxpi.specs.NodeCalls.{node_on, node_reply, node_leaves, node_replies};
 
-use crate::power_on::start_refusal;
+use crate::power_on;
+use base_refusals::Refusal;
 use machine_node::{Command, Event, Node, Reply};
 use packed_node::{event_of, node_of, put_node, put_power_on, put_reply};
-use set_plan::Lookup;
+use set_plan::Row;
 
 pub fn cxpi_node_power_on(plan: &[u8], state: &mut [u8]) -> u32
     ensures { (result ≡ start_refusal node_length plan.now (length state.old)) × (state.new ≡ node_on plan.now state.old) }
 {
-    let refusal = start_refusal(packed_node::LENGTH, plan, state.len());
-    if refusal != 0 {
-        return refusal as u32;
+    if let Err(refusal) = power_on::judge(packed_node::LENGTH, plan, state.len()) {
+        return refusal.number() as u32;
     }
     put_power_on(state, set_record::sleeps(plan));
     0
 }
 
-fn refused(refusal: u8) -> Reply
-    ensures { result ≡ refuse (power_on true) refusal }
+fn refused(refusal: Refusal) -> Reply
+    ensures { result ≡ refuse (power_on true) (number refusal) }
 {
     let node = Node::power_on(true);
     Reply {
         node,
         command: Command::Nothing,
-        refusal,
+        refusal: refusal.number(),
     }
 }
 
 // The row that an event asks the plan for.
-fn row_for(plan: &[u8], event: Event) -> Lookup
+fn row_for(plan: &[u8], event: Event) -> Option<Row>
     ensures { result ≡ row_asked (record_of plan.now) event }
 {
-    match event {
-        Event::Tick(_) => Lookup::Missing,
-        Event::Pulse => Lookup::Missing,
-        Event::WakeAsk => Lookup::Missing,
-        Event::Permission(_) => Lookup::Missing,
-        Event::SleepMessage => Lookup::Missing,
-        Event::Request(reqid) => set_record::row_of(plan, reqid),
-        Event::SendAsk(reqid) => set_record::row_of(plan, reqid),
-    }
+    set_record::row_of(plan, event.reqid()?)
 }
 
 // The reply to a step on bytes, with nothing written yet. The plan is judged once, here, in its bytes.
 fn reply_to(plan: &[u8], me: u8, state: &[u8], event: &[u8], room: usize) -> Reply
     ensures { result ≡ node_reply plan.now me state.now event.now room }
 {
-    let refusal = set_record::refusal_of(plan);
-    if refusal != 0 {
+    if let Err(refusal) = set_record::judge(plan) {
         return refused(refusal);
     }
     if room < packed_node::REPLY_LENGTH {
-        return refused(10);
+        return refused(Refusal::BufferShort);
     }
     let happened = event_of(event);
     let row = row_for(plan, happened);

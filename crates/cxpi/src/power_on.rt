@@ -1,13 +1,13 @@
 // What both calls for power-on judge.
 ghost use Rattle.std.specs.Prelude.{◌≡◌};
+ghost use Rattle.base_refusals.specs.Numbers.{number_of};
 ghost use Rattle.cxpi.specs.PowerOn.{start_refusal};
 
-pub(crate) fn start_refusal(needed: usize, plan: &[u8], room: usize) -> u8
-    ensures { result ≡ start_refusal needed plan.now room }
+use base_refusals::Refusal;
+
+pub(crate) fn judge(needed: usize, plan: &[u8], room: usize) -> Result<(), Refusal>
+    ensures { number_of result ≡ start_refusal needed plan.now room }
 {
-    let refusal = set_record::refusal_of(plan);
-    if refusal != 0 {
-        return refusal;
-    }
-    if room < needed { 10 } else { 0 }
+    set_record::judge(plan)?;
+    Refusal::BufferShort.unless(needed <= room)
 }

@@ -1,4 +1,5 @@
 -- The number that plan or state give every event, and the state's bytes under it.
+use Rattle.std.specs.Prelude.{Some, None}
 use Prim.Native.Nat.{ℕ, ◌<◌}
 use mathlib.Core.Path.{◌≡◌, refl, sym, ◌∙◌, ap}
 use mathlib.Core.Bool.{Bool, true, false, not, ◌||◌}
@@ -28,7 +29,6 @@ use Rattle.machine_events.specs.Replies.{command_number, reply_record}
 use Rattle.machine_batch.specs.Batch.{stepped}
 use Rattle.packed_master.specs.States.{master_bytes, master_of}
 use Rattle.packed_master.proofs.StateTrips.{range_long, range_packed}
-use Rattle.packed_master_steps.specs.declared.Outcome.{Outcome}
 use Rattle.packed_master_steps.specs.InPlace.{outcome, leaves}
 use Rattle.packed_master_steps.proofs.Masters.{Sized}
 use Rattle.packed_master_steps.proofs.Outcomes.{written, back, done, left}
@@ -117,7 +117,7 @@ module _ (p : Plan) (s : List ℕ) where
     stands : standing p (master_of s) ≡ 0
     stands = sym is ∙ none
 
-    pub in_place_done : (lost : ℕ) → outcome p s event ≡ Outcome.Done lost
+    pub in_place_done : (lost : ℕ) → outcome p s event ≡ Some lost
         → (◌≡◌ {A = ReplyRecord} (record { refusal = 0; node = 0; command = 0; lost = lost }) (stepped p (master_of s) e).reply)
         × (middle ≡ left_under number s (stepped p (master_of s) e).master) × (master_of middle ≡ (stepped p (master_of s) e).master)
     unfolding stepped
@@ -128,7 +128,7 @@ module _ (p : Plan) (s : List ℕ) where
         let bytes = w ∙ does.bytes in
         rw (none, right.0, step) (refl, bytes, ap master_of bytes ∙ back does.next does.sized)
 
-    module _ (o : outcome p s event ≡ Outcome.Left) where
+    module _ (o : outcome p s event ≡ None) where
       same : middle ≡ s
       same = w ∙ left p s event o
 

@@ -2,6 +2,7 @@
 #![tactic(auto)]
 
 ghost use Rattle.std.specs.Prelude.{◌≡◌};
+ghost use Rattle.base_refusals.specs.Numbers.{number_of};
 ghost use Rattle.set_record.specs.Record.{record_of};
 ghost use Rattle.machine_master.specs.Step.{master_step};
 ghost use Rattle.machine_events.specs.Replies.{reply_record};
@@ -9,27 +10,22 @@ ghost use Rattle.machine_batch.specs.Batch.{stepped, batch_of, batch_replies};
 ghost use Rattle.packed_master.specs.States.{master_bytes, master_of};
 ghost use Rattle.cxpi_batch.specs.BatchCalls.{standing, left_under, batch_leaves};
 
+use base_refusals::{Refusal, number_of};
 use machine_events::{EventRecord, ReplyRecord, command_number, event_of};
 use machine_master::Event;
 use packed_master::{master_of, put_master, step_on};
-use packed_master_steps::{Outcome, step_in_place};
+use packed_master_steps::step_in_place;
 
 // The number that plan and state give every event. Where it is 0 the state's bytes are those that its master is packed in.
-fn number_of(plan: &[u8], state: &[u8]) -> u8
-    ensures { (result ≡ standing (record_of plan.now) (master_of state.now))
-        × (state.now ≡ left_under result state.now (master_of state.now)) }
+fn judge(plan: &[u8], state: &[u8]) -> Result<(), Refusal>
+    ensures { (number_of result ≡ standing (record_of plan.now) (master_of state.now))
+        × (state.now ≡ left_under (number_of result) state.now (master_of state.now)) }
 {
-    let refusal = set_record::refusal_of(plan);
-    if refusal != 0 {
-        return refusal;
-    }
+    set_record::judge(plan)?;
     let times = set_record::times_of(plan);
     let sleeps = set_record::sleeps(plan);
-    if master_of(state).in_range(sleeps, set_record::node_count(plan), times) {
-        0
-    } else {
-        11
-    }
+    let nodes = set_record::node_count(plan);
+    Refusal::NoState.unless(master_of(state).in_range(sleeps, nodes, times))
 }
 
 // The same of a state that is lent to be written.
@@ -38,7 +34,7 @@ fn opened(plan: &[u8], state: &mut [u8]) -> u8
         × (state.new ≡ left_under result state.old (master_of state.old))
         × (master_of state.new ≡ master_of state.old) }
 {
-    number_of(plan, state)
+    number_of(judge(plan, state))
 }
 
 // An event by the machine itself.
@@ -86,8 +82,8 @@ fn reply_of(plan: &[u8], state: &mut [u8], number: u8, event: EventRecord) -> Re
     let happened = event_of(event);
     let outcome = step_in_place(plan, state, happened);
     match outcome {
-        Outcome::Done(lost) => replied(0, lost),
-        Outcome::Left => machine_step(plan, state, happened),
+        Some(lost) => replied(0, lost),
+        None => machine_step(plan, state, happened),
     }
 }
 
@@ -103,14 +99,12 @@ pub fn cxpi_master_batch(
         × (replies.new ≡ batch_replies (record_of plan.now) (master_of state.old) events.now replies.old) }
 {
     if replies.len() < events.len() {
-        return 22;
+        return Refusal::RepliesShort.number() as u32;
     }
     let number = opened(plan, state);
-    let mut i = 0;
-    while i < events.len() {
-        let reply = reply_of(plan, state, number, events[i]);
+    for (i, event) in events.iter().enumerate() {
+        let reply = reply_of(plan, state, number, *event);
         replies[i] = reply;
-        i += 1;
     }
     0
 }

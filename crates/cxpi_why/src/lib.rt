@@ -2,26 +2,23 @@
 #![tactic(auto)]
 
 ghost use Rattle.std.specs.Prelude.{◌≡◌, length};
+ghost use Rattle.machine_reason.specs.Reasons.{explained};
 ghost use Rattle.cxpi_why.specs.ReasonCalls.{reason_reply, reason_leaves};
 
 use base_bytes::put;
-use machine_reason::{Explained, Reason, explain_with, reason_numbers, refused};
+use base_refusals::Refusal;
+use machine_reason::{Reason, explain_with, reason_numbers};
 use packed_master::master_of;
 
 // The bytes of a reply: reason, node and cause.
 const REPLY_LENGTH: usize = 3;
 
 // The plan is judged in its bytes.
-fn explained(plan: &[u8], state: &[u8], room: usize) -> Explained
-    ensures { result ≡ reason_reply plan.now state.now room }
+fn explain(plan: &[u8], state: &[u8], room: usize) -> Result<Reason, Refusal>
+    ensures { explained result ≡ reason_reply plan.now state.now room }
 {
-    let refusal = set_record::refusal_of(plan);
-    if refusal != 0 {
-        return refused(refusal);
-    }
-    if room < REPLY_LENGTH {
-        return refused(10);
-    }
+    set_record::judge(plan)?;
+    Refusal::BufferShort.unless(REPLY_LENGTH <= room)?;
     let times = set_record::times_of(plan);
     explain_with(
         set_record::sleeps(plan),
@@ -45,8 +42,14 @@ pub fn cxpi_master_why(plan: &[u8], state: &[u8], reply: &mut [u8]) -> u32
     ensures { (result ≡ (reason_reply plan.now state.now (length reply.old)).refusal)
         × (reply.new ≡ reason_leaves (reason_reply plan.now state.now (length reply.old)).reason reply.old) }
 {
-    let given = explained(plan, state, reply.len());
-    let reason = given.reason;
-    put_reason(reply, reason);
-    given.refusal as u32
+    match explain(plan, state, reply.len()) {
+        Ok(reason) => {
+            put_reason(reply, reason);
+            0
+        }
+        Err(refusal) => {
+            put_reason(reply, Reason::Nothing);
+            refusal.number() as u32
+        }
+    }
 }

@@ -1,11 +1,12 @@
 -- What the drill prints is what its lines print, of whatever length they are and in whatever pieces they come.
-use Rattle.std.proofs.Common.{◌≡◌, ℕ, ◌≤◌, Bool, true, false, eqb, List, [], ◌∷◌, ◌++◌, length, sym, refl, ap, ◌∙◌, ap₂, append_assoc, append-nil, arith}
+use Rattle.std.proofs.Common.{◌≡◌, ℕ, Bool, true, false, eqb, Option, List, [], ◌∷◌, ◌++◌, length, sym, refl, ap, ◌∙◌, ap₂, append_assoc, append-nil, arith}
 use Rattle.base_lists.specs.Bounded.{if_else}
 use Rattle.set_plan.specs.declared.Plan.{Plan}
 use Rattle.bus.specs.declared.World.{World}
 use Rattle.set_plan.specs.Profile.{sleeps}
 use Rattle.bus.specs.World.{power_on}
-use Rattle.drill_line.specs.Words.{no_number, longer, cut}
+use Rattle.drill_line.specs.declared.LineMove.{LineMove}
+use Rattle.drill_line.specs.Words.{longer, cut}
 use Rattle.drill_line.specs.Parse.{parse_line}
 use Rattle.drill_line.proofs.Long.{enough}
 use Rattle.drill_feed.specs.declared.Drill.{Drill}
@@ -43,8 +44,8 @@ behind_longer p c (l ∷ more) = ap (λ x. x ∷ more) (append_assoc p (c ∷ []
 behind_none : {pieces : List (List ℕ)} → Some pieces → behind [] pieces ≡ pieces
 behind_none (some l more) = refl
 
-module _ (plan : Plan) (few : plan.nodecount ≤ no_number) where
-  abbrev parsed : List ℕ → Rattle.drill_line.specs.declared.Line.Line
+module _ (plan : Plan) where
+  abbrev parsed : List ℕ → Option LineMove
   parsed l = parse_line l plan.nodecount
 
   -- the drill after so many lines, amid another
@@ -52,7 +53,7 @@ module _ (plan : Plan) (few : plan.nodecount ≤ no_number) where
   amid w lines l = record { plan = plan; world = w; lines = lines; held = hold_all empty_held l }
 
   amid_parsed : (w : World) (lines : ℕ) (l : List ℕ) → held_line (amid w lines l) ≡ parsed l
-  amid_parsed w lines l = ap parsed (held_line_lem l) ∙ enough room l plan.nodecount (omega arith) few
+  amid_parsed w lines l = ap parsed (held_line_lem l) ∙ enough room l plan.nodecount (omega arith)
 
   amid_text : (w : World) (lines : ℕ) (l : List ℕ) → line_printed (amid w lines l) ≡ line_text plan w (next_line lines) (parsed l)
   unfolding line_printed

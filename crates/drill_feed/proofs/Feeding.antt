@@ -1,50 +1,39 @@
 -- Laws of a line's end, and of bytes that come in pieces.
-use Rattle.std.proofs.Common.{◌≡◌, ℕ, suc, ◌+◌, ◌-◌, ◌*◌, ◌<◌, ◌≤◌, Bool, eqb, List, [], ◌∷◌, ◌++◌, length, get_or, take, drop, sym, refl, ap, ◌∙◌, ap₂, append_assoc, append-nil, add-one, arith, length-append, length-take, get_or-drop, take_all, get_or-take, take-suc, take-add, eq-eqb, ne_eqb}
+use Rattle.std.proofs.Common.{◌≡◌, ℕ, ◌+◌, ◌*◌, ◌<◌, ◌≤◌, eqb, List, [], ◌∷◌, ◌++◌, Option, Some, None, length, get_or, take, sym, refl, ap, ◌∙◌, ap₂, append_assoc, append-nil, add-one, arith, length-append, take-suc, eq-eqb, ne_eqb}
+use Rattle.base_lists.specs.Bounded.{if_else}
 use Rattle.base_lists.proofs.Choices.{by_test}
 use Rattle.set_plan.specs.declared.Plan.{Plan}
-use Rattle.bus.specs.declared.Act.{Act}
-use Rattle.bus.specs.declared.Fate.{Fate}
 use Rattle.bus.specs.declared.Move.{Move}
 use Rattle.bus.specs.declared.Moved.{Moved}
 use Rattle.bus.specs.declared.World.{World}
 use Rattle.bus.specs.Moves.{world_act}
-use Rattle.base_text.specs.Text.{Appended, Shown, largest}
-use Rattle.base_text.proofs.Appends.{appended_none, appended_then, appended_as}
-use Rattle.drill_line.specs.declared.Line.{Line}
+use Rattle.base_text.specs.Text.{wrote, Shown}
+use Rattle.base_text.specs.declared.Writer.{Writer}
+use Rattle.base_text.proofs.Appends.{wrote_none, wrote_append}
+use Rattle.drill_line.specs.declared.LineMove.{LineMove}
 use Rattle.drill_line.specs.Parse.{on_drill_bus}
 use Rattle.drill_text.specs.Lines.{moved_line, bad_line, next_line}
 use Rattle.drill_text.proofs.Lines.{moved_short, bad_short, Printed, printed_bad, printed_move}
 use Rattle.drill_feed.specs.declared.Drill.{Drill}
 use Rattle.drill_feed.specs.declared.Held.{Held}
-use Rattle.drill_feed.specs.Feed.{line_moved, world_after, line_text, empty_held, hold_byte, hold_all, held_line, ended, line_printed, keeps, byte_fed, byte_printed, fed, printed, last_printed, LineEnd, Gives, last_fed}
+use Rattle.drill_feed.specs.Feed.{line_moved, world_after, line_text, empty_held, hold_byte, held_line, ended, line_printed, keeps, byte_fed, byte_printed, fed, printed, last_printed, last_fed}
 
 -- a line printed
-abbrev pub LinePrinted : Plan → World → ℕ → Line → ℕ → List ℕ → List ℕ → World → ℕ → Type 0
+abbrev pub LinePrinted : Plan → World → ℕ → Option LineMove → World → Writer → Writer → Type 0
 LinePrinted plan w number line = Printed (world_after plan w line) (line_text plan w number line)
 
-module _ (plan : Plan) (w : World) (number : ℕ) {line : Line} {w' : World} {at q r : ℕ} {l l' x : List ℕ} where
-  pub line_bad : line ≡ Line.Bad → l' ≡ x → w' ≡ w → r ≡ q → Appended at (bad_line number) l x q → length x ≡ length l → LinePrinted plan w number line at l l' w' r
+module _ (plan : Plan) (w : World) (number : ℕ) {line : Option LineMove} {w' : World} {out out' x : Writer} where
+  pub line_bad : line ≡ None → out' ≡ x → w' ≡ w → x ≡ wrote (bad_line number) out → LinePrinted plan w number line w' out out'
   line_bad e = printed_bad w number (rw e) (rw e)
 
-  pub line_move : {act : Act} {reached : Bool} {fate : Fate} {m : Move} {o : Moved} → line ≡ Line.Move act reached fate → m ≡ on_drill_bus act reached fate → o ≡ world_act plan w m
-      → l' ≡ x → w' ≡ o.world → r ≡ q → Appended at (moved_line plan number o) l x q → length x ≡ length l → LinePrinted plan w number line at l l' w' r
+  pub line_move : {named : LineMove} {m : Move} {o : Moved} → line ≡ Some named → m ≡ on_drill_bus named.act named.reached named.fate → o ≡ world_act plan w m
+      → out' ≡ x → w' ≡ o.world → x ≡ wrote (moved_line plan number o) out → LinePrinted plan w number line w' out out'
   unfolding line_moved
-  line_move {act = act} {reached = reached} {fate = fate} e b c = printed_move w number plan (on_drill_bus act reached fate) (rw e) (rw e) (c ∙ ap (world_act plan w) b)
+  line_move {named = named} e b c = printed_move w number plan (on_drill_bus named.act named.reached named.fate) (rw e) (rw e) (c ∙ ap (world_act plan w) b)
 
--- the held line ends
-pub ends : (d : Drill) {line : Line} {number at r : ℕ} {held : Held} {l l' : List ℕ} {w : World} → line ≡ held_line d → number ≡ next_line d.lines → held ≡ empty_held
-    → LinePrinted d.plan d.world number line at l l' w r
-    → Gives (ended d) at (line_printed d) l l' (record { drill = record { plan = d.plan; world = w; lines = number; held = held }; length = r })
-unfolding ended line_printed
-ends d e f g t =
-    record {
-      state = rw (f, g) (ap (λ w. record { plan = d.plan; world = w; lines = next_line d.lines; held = empty_held }) (t.world ∙ ap (world_after d.plan d.world) e));
-      appended = appended_as (ap₂ (line_text d.plan d.world) f e) t.appended;
-    }
-
-line_short : (plan : Plan) (w : World) (number : ℕ) (line : Line) → length (line_text plan w number line) ≤ 80
-line_short plan w number (Line.Move act reached fate) = moved_short plan number (line_moved plan w act reached fate)
-line_short plan w number Line.Bad = bad_short number
+line_short : (plan : Plan) (w : World) (number : ℕ) (line : Option LineMove) → length (line_text plan w number line) ≤ 80
+line_short plan w number (Some line) = moved_short plan number (line_moved plan w line.act line.reached line.fate)
+line_short plan w number None = bad_short number
 
 -- 80 bytes of text for each byte of input are room enough, and 80 at its end
 pub last_room : (d : Drill) → length (line_printed d) ≤ 80
@@ -71,86 +60,58 @@ printed-append d [] b = refl
 printed-append d (x ∷ a) b =
     ap (λ l. byte_printed d x ++ l) (printed-append (byte_fed d x) a b) ∙ sym (append_assoc (byte_printed d x) (printed (byte_fed d x) a) (printed (fed (byte_fed d x) a) b))
 
--- bytes with no LF
-
-abbrev NoEnd : List ℕ → Type 0
-NoEnd l = (k : ℕ) → k < length l → get_or l k 0 ≡ 10 → ⊥
-
-fed_kept : (d : Drill) (l : List ℕ) → NoEnd l → fed d l ≡ keeps d (hold_all d.held l)
-unfolding fed hold_all
-fed_kept d [] h = refl
-fed_kept d (x ∷ l) h = rw (ne_eqb x 10 (h 0 (omega arith))) (fed_kept (keeps d (hold_byte d.held x)) l (λ k j. h (suc k) (omega arith)))
-
-printed-none : (d : Drill) (l : List ℕ) → NoEnd l → printed d l ≡ []
-unfolding printed
-printed-none d [] h = refl
-printed-none d (x ∷ l) h = rw (ne_eqb x 10 (h 0 (omega arith))) (printed-none (keeps d (hold_byte d.held x)) l (λ k j. h (suc k) (omega arith)))
-
--- the loop over lines
-
-abbrev part : List ℕ → ℕ → ℕ → List ℕ
-part input start end = take (end - start) (drop start input)
-
-module _ (input : List ℕ) (start end : ℕ) (v : LineEnd input start end) where
-  part_free : NoEnd (part input start end)
-  part_free k p q =
-      let b : length (part input start end) ≤ end - start = omega (arith, length-take (end - start) (drop start input)) in
-      v.inside (start + k) (omega (arith, v.from)) (omega arith) (sym (get_or-take (end - start) (drop start input) k 0 (omega arith) ∙ get_or-drop start input k 0) ∙ q)
-
-  take_part : take end input ≡ take start input ++ part input start end
-  take_part =
-      let e : start + (end - start) ≡ end = omega (arith, v.from) in
-      ap (λ k. take k input) (sym e) ∙ take-add start (end - start) input
-
-  take_line : end < length input → take (end + 1) input ≡ (take start input ++ part input start end) ++ (10 ∷ [])
-  take_line p = rw add-one (take-suc input end 0 p ∙ ap₂ (λ x y. x ++ (y ∷ [])) take_part (v.found p))
-
-  module _ (d₀ d : Drill) (held : Held) (a : d ≡ fed d₀ (take start input)) (b : held ≡ hold_all d.held (part input start end)) where
-    held_part : keeps d held ≡ fed d₀ (take start input ++ part input start end)
-    held_part =
-        ap (keeps d) b ∙ sym (fed_kept d (part input start end) part_free) ∙ ap (λ x. fed x (part input start end)) a
-        ∙ sym (fed-append d₀ (take start input) (part input start end))
-
-    printed_part : printed d₀ (take start input ++ part input start end) ≡ printed d₀ (take start input)
-    printed_part =
-        printed-append d₀ (take start input) (part input start end)
-        ∙ ap (λ x. printed d₀ (take start input) ++ x) (printed-none (fed d₀ (take start input)) (part input start end) part_free) ∙ append-nil (printed d₀ (take start input))
-
-    -- the line ends
-    pub turn_state : end < length input → {d' : Drill} → d' ≡ ended (keeps d held) → d' ≡ fed d₀ (take (end + 1) input)
-    unfolding fed
-    turn_state p q =
-        q ∙ ap ended held_part ∙ sym (fed-append d₀ (take start input ++ part input start end) (10 ∷ [])) ∙ ap (fed d₀) (sym (take_line p))
-
-    pub turn_text : end < length input → {l m n : List ℕ} {r q : ℕ} → length l ≤ largest → Appended 0 (printed d₀ (take start input)) l m r
-        → Appended r (line_printed (keeps d held)) m n q → Appended 0 (printed d₀ (take (end + 1) input)) l n q
-    unfolding printed
-    turn_text p fits w z =
-        appended_as
-        (ap₂ (λ x y. x ++ line_printed y) (sym printed_part) held_part
-        ∙ ap (λ x. printed d₀ (take start input ++ part input start end) ++ x) (sym (append-nil (line_printed (fed d₀ (take start input ++ part input start end)))))
-        ∙ sym (printed-append d₀ (take start input ++ part input start end) (10 ∷ []))
-        ∙ ap (printed d₀) (sym (take_line p)))
-        (appended_then fits w z)
-
-    -- the bytes end
-    whole : length input ≤ end → take start input ++ part input start end ≡ input
-    whole p = sym take_part ∙ take_all end input p
-
-    pub stop_state : length input ≤ end → keeps d held ≡ fed d₀ input
-    stop_state p = held_part ∙ ap (fed d₀) (whole p)
-
-    pub stop_text : length input ≤ end → {l m : List ℕ} {r : ℕ} → Appended 0 (printed d₀ (take start input)) l m r → Appended 0 (printed d₀ input) l m r
-    stop_text p w = appended_as (sym printed_part ∙ ap (printed d₀) (whole p)) w
-
--- no bytes yet
+-- the loop over bytes: none yet, and one more
 pub fed-nothing : (d : Drill) → d ≡ fed d []
 unfolding fed
 fed-nothing d = refl
 
-pub printed-nothing : (d : Drill) (l : List ℕ) → Appended 0 (printed d []) l l 0
+pub printed-nothing : (d : Drill) (out : Writer) → out ≡ wrote (printed d []) out
 unfolding printed
-printed-nothing d l = appended_none 0 l (omega arith)
+printed-nothing d out = sym (wrote_none out)
+
+module _ (d₀ : Drill) (input : List ℕ) (i : ℕ) (within : i < length input) (d : Drill) (a : d ≡ fed d₀ (take i input)) where
+  abbrev pub next : ℕ
+  next = get_or input i 0
+
+  one_more : take (i + 1) input ≡ take i input ++ (next ∷ [])
+  one_more = rw add-one (take-suc input i 0 within)
+
+  fed_more : byte_fed d next ≡ fed d₀ (take (i + 1) input)
+  unfolding fed
+  fed_more = ap (λ x. byte_fed x next) a ∙ sym (fed-append d₀ (take i input) (next ∷ [])) ∙ ap (fed d₀) (sym one_more)
+
+  printed_more : printed d₀ (take i input) ++ byte_printed d next ≡ printed d₀ (take (i + 1) input)
+  unfolding printed
+  printed_more =
+      ap (λ x. printed d₀ (take i input) ++ byte_printed x next) a
+      ∙ ap (λ l. printed d₀ (take i input) ++ l) (sym (append-nil (byte_printed (fed d₀ (take i input)) next)))
+      ∙ sym (printed-append d₀ (take i input) (next ∷ [])) ∙ ap (printed d₀) (sym one_more)
+
+  text_more : (out₀ : Writer) {out x : Writer} → out ≡ wrote (printed d₀ (take i input)) out₀ → x ≡ wrote (byte_printed d next) out → x ≡ wrote (printed d₀ (take (i + 1) input)) out₀
+  text_more out₀ t e =
+      e ∙ ap (wrote (byte_printed d next)) t ∙ sym (wrote_append (printed d₀ (take i input)) (byte_printed d next) out₀) ∙ ap (λ l. wrote l out₀) printed_more
+
+  -- a byte that is held
+  pub kept_state : (next ≡ 10 → ⊥) → {held : Held} → held ≡ hold_byte d.held next → keeps d held ≡ fed d₀ (take (i + 1) input)
+  kept_state n e = ap (keeps d) e ∙ sym (ap (λ t. if_else t (ended d) (keeps d (hold_byte d.held next))) (ne_eqb next 10 n)) ∙ fed_more
+
+  pub kept_text : (next ≡ 10 → ⊥) → (out₀ : Writer) {out : Writer} → out ≡ wrote (printed d₀ (take i input)) out₀ → out ≡ wrote (printed d₀ (take (i + 1) input)) out₀
+  kept_text n out₀ {out} t = text_more out₀ t (sym (wrote_none out) ∙ ap (λ t. wrote (if_else t (line_printed d) []) out) (sym (ne_eqb next 10 n)))
+
+  -- an LF: the held line ends
+  module _ (e : next ≡ 10) {line : Option LineMove} {number : ℕ} {w' : World} {out x : Writer}
+      (f : line ≡ held_line d) (g : number ≡ next_line d.lines) (p : LinePrinted d.plan d.world number line w' out x) where
+    pub ended_state : {held : Held} → held ≡ empty_held → record { plan = d.plan; world = w'; lines = number; held = held } ≡ fed d₀ (take (i + 1) input)
+    unfolding ended
+    ended_state h =
+        rw (g, h) (ap (λ w. record { plan = d.plan; world = w; lines = next_line d.lines; held = empty_held }) (p.world ∙ ap (world_after d.plan d.world) f))
+        ∙ ap (λ t. if_else t (ended d) (keeps d (hold_byte d.held next))) (sym (eq-eqb next 10 e)) ∙ fed_more
+
+    pub ended_text : (out₀ : Writer) → out ≡ wrote (printed d₀ (take i input)) out₀ → x ≡ wrote (printed d₀ (take (i + 1) input)) out₀
+    unfolding line_printed
+    ended_text out₀ t =
+        text_more out₀ t
+        (p.written ∙ ap₂ (λ n l. wrote (line_text d.plan d.world n l) out) g f ∙ ap (λ t. wrote (if_else t (line_printed d) []) out) (sym (eq-eqb next 10 e)))
 
 -- the end of the input: nothing is held, or a line that lacks its LF
 pub last_none : (d : Drill) (l : List ℕ) → d.held.count ≡ 0 → Shown (last_printed d) l l 0

@@ -1,5 +1,5 @@
 -- Laws of the bytes that are held of a line.
-use Rattle.std.proofs.Common.{◌≡◌, ℕ, suc, ◌+◌, ◌<◌, ◌≤◌, eqb, ltb, List, [], ◌∷◌, ◌++◌, length, get_or, take, drop, set, sym, refl, ap, ◌∙◌, append_assoc, append-nil, add-one, arith, length-append, length-set, drop_of_length-le, length-take, length-take-le, take_all, drop-cons, take-suc-set, take_at, le-ltb, lt-ltb, ne_eqb}
+use Rattle.std.proofs.Common.{◌≡◌, ℕ, suc, ◌+◌, ◌<◌, ◌≤◌, eqb, ltb, List, [], ◌∷◌, ◌++◌, length, take, set, sym, refl, ap, ◌∙◌, append_assoc, append-nil, add-one, arith, length-append, length-set, length-take, length-take-le, take_all, take-suc-set, take_at, le-ltb, lt-ltb, ne_eqb}
 use native.Mathlib.Decide.{dec_lt}
 use Rattle.base_lists.proofs.Choices.{by_test}
 use Rattle.drill_feed.specs.declared.Held.{Held}
@@ -10,21 +10,6 @@ pub hold_full : (h : Held) (l : List ℕ) → room ≤ h.count → hold_all h l 
 unfolding hold_all
 hold_full h [] p = refl
 hold_full h (b ∷ l) p = rw (le-ltb h.count room p) (hold_full h l p)
-
--- the loop that holds bytes: one more, and all of them
-pub hold_turn : (bytes part : List ℕ) (count i : ℕ) (z : Held) → count < room → i < length part
-    → hold_all (record { bytes = bytes; count = count }) (drop i part) ≡ z
-    → hold_all (record { bytes = set bytes count (get_or part i 0); count = count + 1 }) (drop (i + 1) part) ≡ z
-unfolding hold_all
-hold_turn bytes part count i z p q e =
-    let a : drop i part ≡ get_or part i 0 ∷ drop (i + 1) part = rw add-one (drop-cons part i 0 q) in
-    let f : hold_byte (record { bytes = bytes; count = count }) (get_or part i 0) ≡ record { bytes = set bytes count (get_or part i 0); count = count + 1 } =
-    rw (lt-ltb count room p) in
-    ap (λ h. hold_all h (drop (i + 1) part)) (sym f) ∙ ap (hold_all (record { bytes = bytes; count = count })) (sym a) ∙ e
-
-pub hold_done : (h z : Held) (part : List ℕ) (i : ℕ) → length part ≤ i → hold_all h (drop i part) ≡ z → h ≡ z
-unfolding hold_all
-hold_done h z part i p e = rw (drop_of_length-le part p) at e
 
 -- what is held of a line is its front
 held_all : (h : Held) (l : List ℕ) → length h.bytes ≡ room → h.count ≤ room → held_text (hold_all h l) ≡ take room (held_text h ++ l)

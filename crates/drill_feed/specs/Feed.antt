@@ -1,5 +1,5 @@
 -- The drill: what its input does and prints, byte by byte and line by line.
-use Rattle.std.specs.Prelude.{◌≡◌, ℕ, ◌+◌, ◌<◌, ◌≤◌, Bool, List, [], ◌∷◌, ◌++◌, length, take, replicate, ◌==◌, ◌≢◌, nat_lt, slice_index, slice_set}
+use Rattle.std.specs.Prelude.{◌≡◌, ℕ, ◌+◌, Bool, List, [], ◌∷◌, ◌++◌, length, take, replicate, ◌==◌, nat_lt, slice_set, Option, Some, None}
 use Rattle.base_lists.specs.Bounded.{if_else}
 use Rattle.set_plan.specs.declared.Plan.{Plan}
 use Rattle.bus.specs.declared.Act.{Act}
@@ -9,8 +9,8 @@ use Rattle.bus.specs.declared.Moved.{Moved}
 use Rattle.set_plan.specs.Profile.{sleeps}
 use Rattle.bus.specs.World.{power_on}
 use Rattle.bus.specs.Moves.{world_act}
-use Rattle.base_text.specs.Text.{Appended, Shown}
-use Rattle.drill_line.specs.declared.Line.{Line}
+use Rattle.base_text.specs.Text.{Shown}
+use Rattle.drill_line.specs.declared.LineMove.{LineMove}
 use Rattle.drill_line.specs.Words.{cut}
 use Rattle.drill_line.specs.Parse.{parse_line, on_drill_bus}
 use Rattle.drill_text.specs.Lines.{moved_line, bad_line, next_line}
@@ -23,14 +23,14 @@ unfoldable pub line_moved : Plan → World → Act → Bool → Fate → Moved
 line_moved plan world act reached fate = world_act plan world (on_drill_bus act reached fate)
 
 -- the world after a line: "Any other line .. counts", and moves nothing
-abbrev pub world_after : Plan → World → Line → World
-world_after plan world (Line.Move act reached fate) = (line_moved plan world act reached fate).world
-world_after plan world Line.Bad = world
+abbrev pub world_after : Plan → World → Option LineMove → World
+world_after plan world (Some line) = (line_moved plan world line.act line.reached line.fate).world
+world_after plan world None = world
 
 -- what a line prints
-abbrev pub line_text : Plan → World → ℕ → Line → List ℕ
-line_text plan world number (Line.Move act reached fate) = moved_line plan number (line_moved plan world act reached fate)
-line_text plan world number Line.Bad = bad_line number
+abbrev pub line_text : Plan → World → ℕ → Option LineMove → List ℕ
+line_text plan world number (Some line) = moved_line plan number (line_moved plan world line.act line.reached line.fate)
+line_text plan world number None = bad_line number
 
 -- what so many lines and more print, the input cut at each LF: "Lines end in LF, which the last may lack"
 unfoldable pub lines_text : Plan → World → ℕ → List (List ℕ) → List ℕ
@@ -66,7 +66,7 @@ held_text held = take held.count held.bytes
 abbrev pub started : Plan → Drill
 started plan = record { plan = plan; world = power_on (sleeps plan); lines = 0; held = empty_held }
 
-abbrev pub held_line : Drill → Line
+abbrev pub held_line : Drill → Option LineMove
 held_line d = parse_line (held_text d.held) d.plan.nodecount
 
 -- the held line ends
@@ -105,18 +105,7 @@ last_printed d = if_else (d.held.count == 0) [] (line_printed d)
 unfoldable pub all_printed : Drill → List ℕ → List ℕ
 all_printed d input = printed d input ++ last_printed (fed d input)
 
--- the end of the line that starts at an index: its LF, or the end of the bytes
-pub record LineEnd (bytes : List ℕ) (start end : ℕ) : Type 0 where
-  pub from : start ≤ end
-  pub within : end ≤ length bytes
-  pub inside : (k : ℕ) → k < end → start ≤ k → slice_index bytes k ≢ 10
-  pub found : end < length bytes → slice_index bytes end ≡ 10
-
--- a drill and a text: the answer r, and the buffer l' that was l; the text stands in it from an index on, or at its front
-pub record Gives (d : Drill) (at : ℕ) (text l l' : List ℕ) (r : Fed) : Type 0 where
-  pub state : r.drill ≡ d
-  pub appended : Appended at text l l' r.length
-
+-- a drill and a text: the answer r, and the buffer l' that was l, at whose front the text stands
 pub record GivesFirst (d : Drill) (text l l' : List ℕ) (r : Fed) : Type 0 where
   pub state : r.drill ≡ d
   pub shown : Shown text l l' r.length

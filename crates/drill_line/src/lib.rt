@@ -1,357 +1,268 @@
 // A line of the drill's input: the move that its words name.
 #![tactic(auto)]
 
-ghost use Rattle.std.specs.Prelude.{◌≡◌, ◌∷◌, ◌+◌, ◌<◌, length, take, drop};
-ghost use Rattle.drill_line.specs.Words.{words, first_space, digit_of, two_digits, three_digits, number_of};
-ghost use Rattle.drill_line.specs.Parse.{who_of, fate_of, one_word, wake_of, sent_of, two_words, permit_who, permit_of, request_of, three_words, send_who, send_of, four_words, line_of, parse_line, on_drill_bus};
+ghost use Rattle.std.specs.Prelude.{◌≡◌, ◌∷◌, ◌≤◌, [], IfSome, MatchOption};
+ghost use Rattle.drill_line.specs.Words.{words, first_space, digit_of, first_digit_of, number_of};
+ghost use Rattle.drill_line.specs.Parse.{number_below, who_of, fate_of, reqid_of, lossless, one_word, wake_of, sent_of, two_words, permission_of, permit_of, request_of, three_words, send_of, four_words, parse_line, on_drill_bus};
 
-use base_bytes::byte_at;
-use base_text::same;
 use bus::{Act, Bus, Damage, Fate, Move};
 use set_plan::{Plan, Row};
-
-// What becomes of an answer: H.
-#[derive(Clone, Copy)]
-pub enum FateWord {
-    Is(Fate),
-    Unknown,
-}
 
 // Whom a move names: X.
 #[derive(Clone, Copy)]
 pub enum Who {
     Master,
     Node(u8),
-    Nobody,
 }
 
-// A move in its parts: an enum that holds arrays, as a `Move` has, takes proofs by hand.
+// A move in its parts: the act, whether its message reaches all nodes or none, and what becomes of its answer.
 #[derive(Clone, Copy)]
-pub enum Line {
-    // the act, whether its message reaches all nodes or none, and what becomes of its answer
-    Move(Act, bool, Fate),
-    Bad,
+pub struct LineMove {
+    pub act: Act,
+    pub reached: bool,
+    pub fate: Fate,
 }
 
 // A whole answer has its row's own length, which no row's is above.
 const OWN_LENGTH: u16 = u16::MAX;
 
-// What a word that is no number counts as.
-const NO_NUMBER: u16 = 1000;
-
-fn first_space(text: &[u8]) -> usize
+fn first_space(text: &[u8]) -> Option<usize>
     ensures { result ≡ first_space text.now }
 {
-    let mut i: usize = 0;
-    while i < text.len() {
-        if text[i] == 32 {
-            return i;
-        }
-        i += 1;
-    }
-    i
+    text.iter().position(|byte| *byte == b' ')
 }
 
-fn digit(byte: u8) -> u16
-    ensures { result ≡ digit_of byte }
+// The word before the first space, and what is behind that space.
+fn split_once(text: &[u8]) -> Option<(&[u8], &[u8])>
+    ensures { MatchOption result (words text.now ≡ text.now ∷ []) (λ parts. words text.now ≡ parts.0.now ∷ words parts.1.now) }
 {
-    if byte < 48 {
-        return NO_NUMBER;
-    }
-    if 57 < byte {
-        return NO_NUMBER;
-    }
-    (byte - 48) as u16
+    let space = first_space(text)?;
+    Some((&text[..space], &text[space + 1..]))
 }
 
-fn two_digits(tens: u16, ones: u16) -> u16
-    ensures { result ≡ two_digits tens ones }
+fn digit(byte: u8) -> Option<u16>
+    ensures value { result ≡ digit_of byte }
+    ensures small { IfSome result (λ digit. digit ≤ 9) }
 {
-    if tens < 1 {
-        return NO_NUMBER;
+    match byte {
+        b'0'..=b'9' => Some((byte - b'0') as u16),
+        _ => None,
     }
-    if 9 < tens {
-        return NO_NUMBER;
-    }
-    if 9 < ones {
-        return NO_NUMBER;
-    }
-    10 * tens + ones
 }
 
-fn three_digits(hundreds: u16, tens: u16, ones: u16) -> u16
-    ensures { result ≡ three_digits hundreds tens ones }
+// The first of several digits.
+fn first_digit(byte: u8) -> Option<u16>
+    ensures value { result ≡ first_digit_of byte }
+    ensures small { IfSome result (λ digit. digit ≤ 9) }
 {
-    if hundreds < 1 {
-        return NO_NUMBER;
-    }
-    if 9 < hundreds {
-        return NO_NUMBER;
-    }
-    if 9 < tens {
-        return NO_NUMBER;
-    }
-    if 9 < ones {
-        return NO_NUMBER;
-    }
-    100 * hundreds + 10 * tens + ones
+    if byte == b'0' { None } else { digit(byte) }
 }
 
-fn number(word: &[u8]) -> u16
+#[tactic(auto, unfolding(crate::specs::Words::number_of))]
+fn number(word: &[u8]) -> Option<u16>
     ensures { result ≡ number_of word.now }
 {
-    let digits = word.len();
-    if digits == 1 {
-        return digit(byte_at(word, 0));
+    match *word {
+        [ones] => digit(ones),
+        [tens, ones] => Some(10 * first_digit(tens)? + digit(ones)?),
+        [hundreds, tens, ones] => {
+            Some(100 * first_digit(hundreds)? + 10 * digit(tens)? + digit(ones)?)
+        }
+        _ => None,
     }
-    if digits == 2 {
-        return two_digits(digit(byte_at(word, 0)), digit(byte_at(word, 1)));
-    }
-    if digits == 3 {
-        return three_digits(
-            digit(byte_at(word, 0)),
-            digit(byte_at(word, 1)),
-            digit(byte_at(word, 2)),
-        );
-    }
-    NO_NUMBER
 }
 
-fn whom(word: &[u8], nodecount: u8) -> Who
+fn number_below(word: &[u8], limit: u8) -> Option<u8>
+    ensures { result ≡ number_below word.now limit }
+{
+    let number = number(word)?;
+    if number < (limit as u16) {
+        Some(number as u8)
+    } else {
+        None
+    }
+}
+
+#[tactic(auto, unfolding(crate::specs::Parse::who_of))]
+fn whom(word: &[u8], nodecount: u8) -> Option<Who>
     ensures { result ≡ who_of word.now nodecount }
 {
-    if same(word, b"m") {
-        return Who::Master;
-    }
-    let node = number(word);
-    if node < (nodecount as u16) {
-        Who::Node(node as u8)
-    } else {
-        Who::Nobody
+    match word {
+        b"m" => Some(Who::Master),
+        _ => Some(Who::Node(number_below(word, nodecount)?)),
     }
 }
 
-fn fate_word(word: &[u8]) -> FateWord
+#[tactic(auto, unfolding(crate::specs::Parse::fate_of))]
+fn fate(word: &[u8]) -> Option<Fate>
     ensures { result ≡ fate_of word.now }
 {
-    if same(word, b"ok") {
-        return FateWord::Is(Fate::Whole(OWN_LENGTH));
-    }
-    if same(word, b"bad") {
-        return FateWord::Is(Fate::Damaged(Damage {
+    match word {
+        b"ok" => Some(Fate::Whole(OWN_LENGTH)),
+        b"bad" => Some(Fate::Damaged(Damage {
             result: 1,
             length: 0,
             count: 0,
             permission: false,
             wake: false,
-        }));
+        })),
+        b"lost" => Some(Fate::Lost),
+        _ => None,
     }
-    if same(word, b"lost") {
-        return FateWord::Is(Fate::Lost);
-    }
-    FateWord::Unknown
 }
 
-fn one_word(first: &[u8]) -> Line
+#[tactic(auto, unfolding(crate::specs::Parse::reqid_of))]
+fn reqid(word: &[u8]) -> Option<u8>
+    ensures { result ≡ reqid_of word.now }
+{
+    number_below(word, Row::REQIDS as u8)
+}
+
+// A move of which the bus loses nothing.
+fn lossless(act: Act) -> LineMove
+    ensures { result ≡ lossless act }
+{
+    LineMove {
+        act,
+        reached: true,
+        fate: Fate::Whole(OWN_LENGTH),
+    }
+}
+
+fn one_word(first: &[u8]) -> Option<LineMove>
     ensures { result ≡ one_word first.now }
 {
-    if same(first, b"tick") {
-        return Line::Move(Act::Tick, true, Fate::Whole(OWN_LENGTH));
+    match first {
+        b"tick" => Some(lossless(Act::Tick)),
+        b"sleep" => Some(lossless(Act::SleepAsk)),
+        _ => None,
     }
-    if same(first, b"sleep") {
-        return Line::Move(Act::SleepAsk, true, Fate::Whole(OWN_LENGTH));
-    }
-    Line::Bad
 }
 
-fn wake(who: Who) -> Line
+fn wake(who: Who) -> LineMove
     ensures { result ≡ wake_of who }
 {
     match who {
-        Who::Node(node) => Line::Move(Act::NodeWakeAsk(node), true, Fate::Whole(OWN_LENGTH)),
-        Who::Master => Line::Move(Act::MasterWakeAsk, true, Fate::Whole(OWN_LENGTH)),
-        Who::Nobody => Line::Bad,
+        Who::Node(node) => lossless(Act::NodeWakeAsk(node)),
+        Who::Master => lossless(Act::MasterWakeAsk),
     }
 }
 
-fn sent(res: &[u8]) -> Line
+fn sent(res: &[u8]) -> Option<LineMove>
     ensures { result ≡ sent_of res.now }
 {
-    if same(res, b"ok") {
-        return Line::Move(Act::SendResult(true), true, Fate::Whole(OWN_LENGTH));
+    match res {
+        b"ok" => Some(lossless(Act::SendResult(true))),
+        b"fail" => Some(LineMove {
+            act: Act::SendResult(false),
+            reached: false,
+            fate: Fate::Whole(OWN_LENGTH),
+        }),
+        _ => None,
     }
-    if same(res, b"fail") {
-        return Line::Move(Act::SendResult(false), false, Fate::Whole(OWN_LENGTH));
-    }
-    Line::Bad
 }
 
-fn two_words(first: &[u8], second: &[u8], nodecount: u8) -> Line
+fn two_words(first: &[u8], second: &[u8], nodecount: u8) -> Option<LineMove>
     ensures { result ≡ two_words first.now second.now nodecount }
 {
-    if same(first, b"wake") {
-        return wake(whom(second, nodecount));
-    }
-    if same(first, b"sent") {
-        return sent(second);
-    }
-    Line::Bad
-}
-
-fn permit_who(who: Who, permitted: bool) -> Line
-    ensures { result ≡ permit_who who permitted }
-{
-    match who {
-        Who::Node(node) => Line::Move(
-            Act::NodePermission { node, permitted },
-            true,
-            Fate::Whole(OWN_LENGTH),
-        ),
-        Who::Master => Line::Move(
-            Act::MasterPermission(permitted),
-            true,
-            Fate::Whole(OWN_LENGTH),
-        ),
-        Who::Nobody => Line::Bad,
+    match first {
+        b"wake" => Some(wake(whom(second, nodecount)?)),
+        b"sent" => sent(second),
+        _ => None,
     }
 }
 
-fn permit(who: Who, permission: &[u8]) -> Line
-    ensures { result ≡ permit_of who permission.now }
-{
-    if same(permission, b"0") {
-        return permit_who(who, false);
-    }
-    if same(permission, b"1") {
-        return permit_who(who, true);
-    }
-    Line::Bad
-}
-
-fn request(reqid: u16, word: FateWord) -> Line
-    ensures { result ≡ request_of reqid word }
+#[tactic(auto, unfolding(crate::specs::Parse::permission_of))]
+fn permission(word: &[u8]) -> Option<bool>
+    ensures { result ≡ permission_of word.now }
 {
     match word {
-        FateWord::Is(fate) => {
-            if Row::REQIDS <= (reqid as usize) {
-                Line::Bad
-            } else {
-                Line::Move(Act::Request(reqid as u8), true, fate)
-            }
-        }
-        FateWord::Unknown => Line::Bad,
+        b"0" => Some(false),
+        b"1" => Some(true),
+        _ => None,
     }
 }
 
-fn three_words(first: &[u8], second: &[u8], third: &[u8], nodecount: u8) -> Line
+fn permit(x: &[u8], permitted: &[u8], nodecount: u8) -> Option<LineMove>
+    ensures { result ≡ permit_of x.now permitted.now nodecount }
+{
+    let who = whom(x, nodecount)?;
+    let permitted = permission(permitted)?;
+    Some(match who {
+        Who::Node(node) => lossless(Act::NodePermission { node, permitted }),
+        Who::Master => lossless(Act::MasterPermission(permitted)),
+    })
+}
+
+fn request(reqid: u8, fate: Fate) -> LineMove
+    ensures { result ≡ request_of reqid fate }
+{
+    LineMove {
+        act: Act::Request(reqid),
+        reached: true,
+        fate,
+    }
+}
+
+fn three_words(first: &[u8], second: &[u8], third: &[u8], nodecount: u8) -> Option<LineMove>
     ensures { result ≡ three_words first.now second.now third.now nodecount }
 {
-    if same(first, b"permit") {
-        return permit(whom(second, nodecount), third);
+    match first {
+        b"permit" => permit(second, third, nodecount),
+        b"req" => Some(request(reqid(second)?, fate(third)?)),
+        _ => None,
     }
-    if same(first, b"req") {
-        return request(number(second), fate_word(third));
-    }
-    Line::Bad
 }
 
-fn send_who(who: Who, reqid: u8, fate: Fate) -> Line
-    ensures { result ≡ send_who who reqid fate }
+// The master sends by its schedule alone.
+fn send(who: Who, reqid: u8, fate: Fate) -> Option<LineMove>
+    ensures { result ≡ send_of who reqid fate }
 {
     match who {
-        Who::Node(node) => Line::Move(Act::SendAsk { node, reqid }, true, fate),
-        Who::Master => Line::Bad,
-        Who::Nobody => Line::Bad,
+        Who::Node(node) => Some(LineMove {
+            act: Act::SendAsk { node, reqid },
+            reached: true,
+            fate,
+        }),
+        Who::Master => None,
     }
 }
 
-fn send(who: Who, reqid: u16, word: FateWord) -> Line
-    ensures { result ≡ send_of who reqid word }
-{
-    match word {
-        FateWord::Is(fate) => {
-            if Row::REQIDS <= (reqid as usize) {
-                Line::Bad
-            } else {
-                send_who(who, reqid as u8, fate)
-            }
-        }
-        FateWord::Unknown => Line::Bad,
-    }
-}
-
-fn four_words(first: &[u8], second: &[u8], third: &[u8], fourth: &[u8], nodecount: u8) -> Line
+fn four_words(
+    first: &[u8],
+    second: &[u8],
+    third: &[u8],
+    fourth: &[u8],
+    nodecount: u8,
+) -> Option<LineMove>
     ensures { result ≡ four_words first.now second.now third.now fourth.now nodecount }
 {
-    if same(first, b"send") {
-        return send(whom(second, nodecount), number(third), fate_word(fourth));
+    match first {
+        b"send" => send(whom(second, nodecount)?, reqid(third)?, fate(fourth)?),
+        _ => None,
     }
-    Line::Bad
-}
-
-// The bytes before an index, and those after it.
-fn front(text: &[u8], index: usize) -> &[u8]
-    requires { index < length text.now }
-    ensures { result.now ≡ take index text.now }
-{
-    &text[..index]
-}
-
-fn rest(text: &[u8], index: usize) -> &[u8]
-    requires { index < length text.now }
-    ensures { result.now ≡ drop (index + 1) text.now }
-{
-    &text[index + 1..]
-}
-
-fn after_three(first: &[u8], second: &[u8], third: &[u8], text: &[u8], nodecount: u8) -> Line
-    ensures { result ≡ line_of (first.now ∷ second.now ∷ third.now ∷ words text.now) nodecount }
-{
-    let space = first_space(text);
-    if text.len() <= space {
-        return four_words(first, second, third, text, nodecount);
-    }
-    Line::Bad
-}
-
-fn after_two(first: &[u8], second: &[u8], text: &[u8], nodecount: u8) -> Line
-    ensures { result ≡ line_of (first.now ∷ second.now ∷ words text.now) nodecount }
-{
-    let space = first_space(text);
-    if text.len() <= space {
-        return three_words(first, second, text, nodecount);
-    }
-    after_three(
-        first,
-        second,
-        front(text, space),
-        rest(text, space),
-        nodecount,
-    )
-}
-
-fn after_one(first: &[u8], text: &[u8], nodecount: u8) -> Line
-    ensures { result ≡ line_of (first.now ∷ words text.now) nodecount }
-{
-    let space = first_space(text);
-    if text.len() <= space {
-        return two_words(first, text, nodecount);
-    }
-    after_two(first, front(text, space), rest(text, space), nodecount)
 }
 
 // What a line, given without its LF, says in a plan of so many nodes.
-pub fn parse(line: &[u8], nodecount: u8) -> Line
+pub fn parse(line: &[u8], nodecount: u8) -> Option<LineMove>
     ensures { result ≡ parse_line line.now nodecount }
 {
-    let space = first_space(line);
-    if line.len() <= space {
+    let Some((first, more)) = split_once(line) else {
         return one_word(line);
+    };
+    let Some((second, more)) = split_once(more) else {
+        return two_words(first, more, nodecount);
+    };
+    let Some((third, fourth)) = split_once(more) else {
+        return three_words(first, second, more, nodecount);
+    };
+    if split_once(fourth).is_some() {
+        return None;
     }
-    after_one(front(line, space), rest(line, space), nodecount)
+    four_words(first, second, third, fourth, nodecount)
 }
 
-// A line's move on the bus.
+// A line's move on the bus. It takes the parts one by one: the promise of `on_drill_bus`, which docs/TRACE.md names, is about them.
 pub fn on_drill_bus(act: Act, reached: bool, fate: Fate) -> Move
     ensures { result ≡ on_drill_bus act reached fate }
 {

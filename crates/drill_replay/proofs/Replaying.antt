@@ -8,8 +8,9 @@ use Rattle.bus.specs.declared.Move.{Move}
 use Rattle.bus.specs.declared.Moved.{Moved}
 use Rattle.bus.specs.declared.World.{World}
 use Rattle.bus.specs.Moves.{world_act}
-use Rattle.base_text.specs.Text.{Appended, largest}
-use Rattle.base_text.proofs.Appends.{appended_none, appended_then, appended_as}
+use Rattle.base_text.specs.declared.Writer.{Writer}
+use Rattle.base_text.specs.Text.{wrote}
+use Rattle.base_text.proofs.Appends.{wrote_none, wrote_append}
 use Rattle.drill_text.specs.Lines.{moved_line, bad_line, next_line}
 use Rattle.drill_text.proofs.Lines.{moved_short, bad_short, Printed, printed_bad, printed_move}
 use Rattle.bus_moves.specs.Decoding.{move_of, is_move}
@@ -63,16 +64,16 @@ unfolding records
 room_enough r input = omega (arith, all_short r (records input), length-tab (record_count input) (record_at input))
 
 -- a record printed
-abbrev pub RecordPrinted : Plan → World → ℕ → List ℕ → ℕ → List ℕ → List ℕ → World → ℕ → Type 0
+abbrev pub RecordPrinted : Plan → World → ℕ → List ℕ → World → Writer → Writer → Type 0
 RecordPrinted plan w number s = Printed (world_after plan w s) (record_text plan w number s)
 
-module _ (plan : Plan) (w : World) (number : ℕ) (s : List ℕ) {w' : World} {at q end : ℕ} {l l' x : List ℕ} where
-  pub record_bad : is_move s ≡ false → l' ≡ x → w' ≡ w → end ≡ q → Appended at (bad_line number) l x q → length x ≡ length l → RecordPrinted plan w number s at l l' w' end
+module _ (plan : Plan) (w : World) (number : ℕ) (s : List ℕ) {w' : World} {out out' x : Writer} where
+  pub record_bad : is_move s ≡ false → out' ≡ x → w' ≡ w → x ≡ wrote (bad_line number) out → RecordPrinted plan w number s w' out out'
   unfolding world_after record_text
   record_bad e = printed_bad w number (rw e) (rw e)
 
-  pub record_move : {m : Move} {o : Moved} → is_move s ≡ true → m ≡ move_of s → o ≡ world_act plan w m → l' ≡ x → w' ≡ o.world → end ≡ q
-      → Appended at (moved_line plan number o) l x q → length x ≡ length l → RecordPrinted plan w number s at l l' w' end
+  pub record_move : {m : Move} {o : Moved} → is_move s ≡ true → m ≡ move_of s → o ≡ world_act plan w m → out' ≡ x → w' ≡ o.world
+      → x ≡ wrote (moved_line plan number o) out → RecordPrinted plan w number s w' out out'
   unfolding record_moved world_after record_text
   record_move e b c = printed_move w number plan (move_of s) (rw e) (rw e) (c ∙ ap (world_act plan w) b)
 
@@ -82,13 +83,13 @@ module _ (r : Replay) (input : List ℕ) where
   unfolding after_all tab
   none-replayed = refl
 
-  pub none-printed : (l : List ℕ) → Appended 0 (all_printed r (tab 0 (record_at input))) l l 0
+  pub none-printed : (out : Writer) → out ≡ wrote (all_printed r (tab 0 (record_at input))) out
   unfolding all_printed tab
-  none-printed l = appended_none 0 l (omega arith)
+  none-printed out = sym (wrote_none out)
 
-  module _ (k : ℕ) (now : Replay) {number at end : ℕ} {s l l' : List ℕ} {w : World}
+  module _ (k : ℕ) (now : Replay) {number : ℕ} {s : List ℕ} {w : World} {out x : Writer}
       (a : now ≡ after_all r (tab k (record_at input))) (b : number ≡ next_line now.count) (c : s ≡ record_at input k)
-      (t : RecordPrinted now.plan now.world number s at l l' w end) where
+      (t : RecordPrinted now.plan now.world number s w out x) where
     one_more : tab (k + 1) (record_at input) ≡ tab k (record_at input) ++ (record_at input k ∷ [])
     one_more = rw add-one (tab_last k (record_at input))
 
@@ -98,12 +99,13 @@ module _ (r : Replay) (input : List ℕ) where
         ap₂ (λ x y. record { plan = now.plan; world = x; count = y }) (t.world ∙ ap (world_after now.plan now.world) c) b
         ∙ ap (λ x. after x (record_at input k)) a ∙ sym (after-append r (tab k (record_at input)) (record_at input k ∷ [])) ∙ ap (after_all r) (sym one_more)
 
-    pub more_printed : {l₀ : List ℕ} → length l₀ ≤ largest → Appended 0 (all_printed r (tab k (record_at input))) l₀ l at → Appended 0 (all_printed r (tab (k + 1) (record_at input))) l₀ l' end
+    pub more_printed : (out₀ : Writer) → out ≡ wrote (all_printed r (tab k (record_at input))) out₀ → x ≡ wrote (all_printed r (tab (k + 1) (record_at input))) out₀
     unfolding all_printed
-    more_printed fits v =
-        appended_as
-        (ap (λ x. all_printed r (tab k (record_at input)) ++ x)
+    more_printed out₀ v =
+        let text = record_text now.plan now.world number s in
+        let e : all_printed r (tab k (record_at input)) ++ text ≡ all_printed r (tab (k + 1) (record_at input)) =
+        ap (λ x. all_printed r (tab k (record_at input)) ++ x)
         (ap₂ (record_text now.plan now.world) b c ∙ ap (λ x. record_text x.plan x.world (next_line x.count) (record_at input k)) a
         ∙ sym (append-nil (record_text (after_all r (tab k (record_at input))).plan (after_all r (tab k (record_at input))).world (next_line (after_all r (tab k (record_at input))).count) (record_at input k))))
-        ∙ sym (printed-append r (tab k (record_at input)) (record_at input k ∷ [])) ∙ ap (all_printed r) (sym one_more))
-        (appended_then fits v t.appended)
+        ∙ sym (printed-append r (tab k (record_at input)) (record_at input k ∷ [])) ∙ ap (all_printed r) (sym one_more) in
+        t.written ∙ ap (wrote text) v ∙ sym (wrote_append (all_printed r (tab k (record_at input))) text out₀) ∙ ap (λ l. wrote l out₀) e

@@ -2,10 +2,10 @@
 #![tactic(auto)]
 
 ghost use Rattle.std.specs.Prelude.{◌≡◌};
-ghost use Rattle.base_text.specs.Text.{Counts};
+ghost use Rattle.base_text.specs.Text.{wrote, Counts};
 ghost use Rattle.drill_replay.specs.Replay.{started, replayed, printed, Gives};
 
-use base_text::below;
+use base_text::Writer;
 use bus::World;
 use bus_moves::{is_move, move_of, record_at, record_count};
 use drill_text::{append_bad, append_move};
@@ -38,37 +38,39 @@ impl Replay {
         }
     }
 
+    fn feed_from(self, input: &[u8], out: &mut Writer<'_>) -> Replay
+        ensures state { result ≡ replayed self input.now }
+        ensures text { out.new ≡ wrote (printed self input.now) out.old }
+    {
+        let plan = self.plan;
+        let mut world = self.world;
+        let mut count = self.count;
+        for k in 0..record_count(input) {
+            let bytes = record_at(input, k);
+            count = count.wrapping_add(1);
+            if is_move(bytes) {
+                let moved = world.act(plan, move_of(bytes));
+                world = moved.world;
+                append_move(out, count, &world, plan.nodecount, moved.refusal);
+            } else {
+                append_bad(out, count);
+            }
+        }
+        Replay { plan, world, count }
+    }
+
     // A piece more of the input, of whole records but for a last piece. Its text stands at the front of the buffer, as far as there is
     // room: 80 places for each record are enough.
+    #[tactic(auto, unfolding(base_text::specs::Text::wrote))]
     pub fn feed(self, input: &[u8], out: &mut [u8]) -> Fed
         ensures gives { Gives (replayed self input.now) (printed self input.now) out.old out.new result }
         ensures counts { Counts result.length out.new }
     {
-        let plan = self.plan;
-        let mut world = self.world;
-        let mut number = self.count;
-        let mut next: usize = 0;
-        let count = record_count(input);
-        let mut k: usize = 0;
-        while k < count {
-            let bytes = record_at(input, k);
-            number = std::num::wrapping_add_u64(number, 1);
-            if is_move(bytes) {
-                let moved = world.act(plan, move_of(bytes));
-                world = moved.world;
-                next = append_move(out, next, number, world, plan.nodecount, moved.refusal);
-            } else {
-                next = append_bad(out, next, number);
-            }
-            k += 1;
-        }
+        let mut text = Writer::new(out);
+        let replay = self.feed_from(input, &mut text);
         Fed {
-            replay: Replay {
-                plan,
-                world,
-                count: number,
-            },
-            length: below(&out[..], next),
+            replay,
+            length: text.length(),
         }
     }
 }

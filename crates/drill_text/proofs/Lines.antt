@@ -1,38 +1,42 @@
 -- Laws of the lines: their parts, their length, and a line printed with the move that it tells of.
 use Prim.Native.Nat.{ℕ, zero, suc, ◌+◌, ◌*◌, ◌≤◌}
-use mathlib.Core.Path.{◌≡◌, ap, sym, ◌∙◌}
-use mathlib.Core.List.{List, [], ◌∷◌}
+use mathlib.Core.Path.{◌≡◌, refl, ap, ap₂, sym, ◌∙◌}
+use mathlib.Core.List.{List, [], ◌++◌}
 use mathlib.Core.Bool.{Bool, true, false}
-use lib.ListN.{length, length-append}
+use lib.ListN.{length, length-append, take}
+use Rattle.std.proofs.Common.{get_or-take}
 use native.Mathlib.Omega.{arith}
 use native.Mathlib.Numerals.{add-one}
-use Rattle.base_text.specs.Text.{Appended, largest}
-use Rattle.base_text.proofs.Appends.{appended_none, appended_then, appended_as}
+use Rattle.base_text.specs.declared.Writer.{Writer}
+use Rattle.base_text.specs.Text.{wrote}
 use Rattle.base_text.proofs.Digits.{decimal_short}
 use Rattle.set_plan.specs.declared.Plan.{Plan}
 use Rattle.machine_state.specs.declared.State.{State}
-use Rattle.machine_master.specs.declared.Master.{Master}
 use Rattle.machine_node.specs.declared.Node.{Node}
 use Rattle.bus.specs.declared.Move.{Move}
 use Rattle.bus.specs.declared.Moved.{Moved}
 use Rattle.bus.specs.declared.World.{World}
 use Rattle.bus.specs.Moves.{world_act}
-use Rattle.bus_nodes.specs.Nodes.{node_at, nodes_used}
-use Rattle.drill_text.specs.Lines.{state_letter, phase_digit, clock_digit, status_text, node_text, nodes_text, refusal_text, move_line, moved_line, bad_line}
+use Rattle.bus_nodes.specs.Nodes.{no_node, node_at, nodes_used}
+use Rattle.drill_text.specs.Lines.{node_text, nodes_text, refusal_text, move_line, moved_line, bad_line}
 
-pub nodes_none : (nodes : List Node) (at : ℕ) (l : List ℕ) → at ≤ largest → Appended at (nodes_text nodes 0) l l at
+-- none yet, and one more
+pub nodes_none : (nodes : List Node) → nodes_text nodes 0 ≡ []
 unfolding nodes_text
-nodes_none nodes at l p = appended_none at l p
+nodes_none nodes = refl
 
-pub nodes_more : (nodes : List Node) (at k r q : ℕ) (l m o : List ℕ) → length l ≤ largest → Appended at (nodes_text nodes k) l m r
-    → Appended r (node_text (node_at nodes k).state (node_at nodes k).error) m o q → Appended at (nodes_text nodes (k + 1)) l o q
+pub nodes_more : (nodes : List Node) (k : ℕ) → nodes_text nodes (k + 1) ≡ nodes_text nodes k ++ node_text (node_at nodes k).state (node_at nodes k).error
 unfolding nodes_text
-nodes_more nodes at k r q l m o fits v w = rw add-one (appended_then fits v w)
+nodes_more nodes k = rw add-one
 
--- what stands between number and nodes, by its letters
-pub status_as : (master : Master) {letter phase clock : ℕ} → letter ≡ state_letter master.state → phase ≡ phase_digit master.phase
-    → clock ≡ clock_digit master.state → 0x20 ∷ letter ∷ phase ∷ 0x20 ∷ clock ∷ 0x20 ∷ [] ≡ status_text master
-status_as master a b c = rw (a, b, c)
+pub ruleset nodes = (nodes_none, nodes_more)
+
+-- those of the front of a table
+pub nodes_front : (nodes : List Node) (n k : ℕ) → k ≤ n → nodes_text (take n nodes) k ≡ nodes_text nodes k
+unfolding nodes_text
+nodes_front nodes n zero p = refl
+nodes_front nodes n (suc k) p =
+    ap₂ (λ text (node : Node). text ++ node_text node.state node.error) (nodes_front nodes n k (omega arith)) (get_or-take n nodes k no_node p)
 
 -- a line has at most 80 bytes: 20 digits for either number, two for each of sixteen nodes, 8 more
 
@@ -56,24 +60,20 @@ pub bad_short : (number : ℕ) → length (bad_line number) ≤ 80
 unfolding bad_line
 bad_short number = simp length-append (omega (arith, decimal_short number))
 
--- an input printed, a line or a record: the world w' that it leaves, and the buffer l' that was l
-pub record Printed (after : World) (text : List ℕ) (at : ℕ) (l l' : List ℕ) (w' : World) (end : ℕ) : Type 0 where
+-- an input printed, a line or a record: the world w' that it leaves, and the writer out that is then out'
+pub record Printed (after : World) (text : List ℕ) (w' : World) (out out' : Writer) : Type 0 where
   pub world : w' ≡ after
-  pub appended : Appended at text l l' end
-  pub size : length l' ≡ length l
+  pub written : out' ≡ wrote text out
 
 -- it is no move, or one
-module _ (w : World) (number : ℕ) {after w' : World} {text : List ℕ} {at q end : ℕ} {l l' x : List ℕ} where
-  pub printed_bad : after ≡ w → text ≡ bad_line number → l' ≡ x → w' ≡ w → end ≡ q → Appended at (bad_line number) l x q → length x ≡ length l
-      → Printed after text at l l' w' end
-  printed_bad a b f g h v n = record { world = g ∙ sym a; appended = rw (b, f, h) v; size = rw f n }
+module _ (w : World) (number : ℕ) {after w' : World} {text : List ℕ} {out out' x : Writer} where
+  pub printed_bad : after ≡ w → text ≡ bad_line number → out' ≡ x → w' ≡ w → x ≡ wrote (bad_line number) out → Printed after text w' out out'
+  printed_bad a b f g v = record { world = g ∙ sym a; written = f ∙ v ∙ ap (λ l. wrote l out) (sym b) }
 
   pub printed_move : (plan : Plan) (m : Move) {o : Moved} → after ≡ (world_act plan w m).world → text ≡ moved_line plan number (world_act plan w m)
-      → o ≡ world_act plan w m → l' ≡ x → w' ≡ o.world → end ≡ q → Appended at (moved_line plan number o) l x q → length x ≡ length l
-      → Printed after text at l l' w' end
-  printed_move plan m a b c f g h v n =
+      → o ≡ world_act plan w m → out' ≡ x → w' ≡ o.world → x ≡ wrote (moved_line plan number o) out → Printed after text w' out out'
+  printed_move plan m a b c f g v =
       record {
         world = g ∙ ap (λ (y : Moved). y.world) c ∙ sym a;
-        appended = rw (f, h) (appended_as (ap (moved_line plan number) c ∙ sym b) v);
-        size = rw f n;
+        written = f ∙ v ∙ ap (λ l. wrote l out) (ap (moved_line plan number) c ∙ sym b);
       }

@@ -1,12 +1,11 @@
 // The lines that the drill prints.
 #![tactic(auto)]
 
-ghost use Rattle.std.specs.Prelude.{◌≡◌};
-ghost use Rattle.base_text.specs.Text.{Appended};
-ghost use Rattle.bus_nodes.specs.Nodes.{nodes_used};
+ghost use Rattle.std.specs.Prelude.{◌≡◌, length};
+ghost use Rattle.base_text.specs.Text.{wrote};
 ghost use Rattle.drill_text.specs.Lines.{state_letter, phase_digit, clock_digit, node_text, nodes_text, refusal_text, move_line, bad_line};
 
-use base_text::{append, append_decimal};
+use base_text::Writer;
 use bus::World;
 use machine_master::Phase;
 use machine_node::Node;
@@ -44,70 +43,61 @@ fn clock_digit(state: State) -> u8
     }
 }
 
-fn append_node(buffer: &mut [u8], at: usize, state: State, error: bool) -> usize
-    ensures { Appended at (node_text state error) buffer.old buffer.new result }
+#[tactic(auto, unfolding(crate::specs::Lines::node_text))]
+fn append_node(out: &mut Writer<'_>, state: State, error: bool)
+    ensures { out.new ≡ wrote (node_text state error) out.old }
 {
     let letter = state_letter(state);
     if error {
-        append(buffer, at, &[letter, b'!'])
+        out.append(&[letter, b'!']);
     } else {
-        append(buffer, at, &[letter])
+        out.append(&[letter]);
     }
 }
 
-fn append_nodes(buffer: &mut [u8], at: usize, nodes: [Node; Plan::NODES], nodecount: u8) -> usize
-    ensures { Appended at (nodes_text nodes (nodes_used nodecount)) buffer.old buffer.new result }
+#[tactic(auto, using(base_text::proofs::Appends::writing, crate::proofs::Lines::nodes))]
+fn append_nodes(out: &mut Writer<'_>, nodes: &[Node])
+    ensures { out.new ≡ wrote (nodes_text nodes.now (length nodes.now)) out.old }
 {
-    let mut k: u8 = 0;
-    let mut next = at;
-    while k < nodecount {
-        if Plan::NODES <= (k as usize) {
-            return next;
-        }
-        let node = nodes[k as usize];
-        let state = node.state;
-        next = append_node(buffer, next, state, node.error);
-        k += 1;
+    for node in nodes {
+        append_node(out, node.state, node.error);
     }
-    next
 }
 
-fn append_refusal(buffer: &mut [u8], at: usize, refusal: u8) -> usize
-    ensures { Appended at (refusal_text refusal) buffer.old buffer.new result }
+#[tactic(auto, using(base_text::proofs::Appends::writing), unfolding(crate::specs::Lines::refusal_text))]
+fn append_refusal(out: &mut Writer<'_>, refusal: u8)
+    ensures { out.new ≡ wrote (refusal_text refusal) out.old }
 {
-    let a = append(buffer, at, b" ");
-    let b = append_decimal(buffer, a, refusal as u64);
-    append(buffer, b, b"\n")
+    out.append(b" ");
+    out.decimal(refusal as u64);
+    out.append(b"\n");
 }
 
 // The line of a move: what it left, and its refusal or 0.
-pub fn append_move(
-    buffer: &mut [u8],
-    at: usize,
-    number: u64,
-    world: World,
-    nodecount: u8,
-    refusal: u8,
-) -> usize
-    ensures { Appended at (move_line number world nodecount refusal) buffer.old buffer.new result }
+#[tactic(auto, using(base_text::proofs::Appends::writing, crate::proofs::Lines::nodes_front), unfolding(crate::specs::Lines::move_line))]
+pub fn append_move(out: &mut Writer<'_>, number: u64, world: &World, nodecount: u8, refusal: u8)
+    ensures { out.new ≡ wrote (move_line number world.now nodecount refusal) out.old }
 {
-    let nodes = world.nodes;
-    let master = world.master;
-    let state = master.state;
-    let phase = master.phase;
-    let letter = state_letter(state);
-    let digit = phase_digit(phase);
-    let clock = clock_digit(state);
-    let a = append_decimal(buffer, at, number);
-    let b = append(buffer, a, &[b' ', letter, digit, b' ', clock, b' ']);
-    let c = append_nodes(buffer, b, nodes, nodecount);
-    append_refusal(buffer, c, refusal)
+    let state = world.master.state;
+    let phase = phase_digit(world.master.phase);
+    out.decimal(number);
+    out.append(&[
+        b' ',
+        state_letter(state),
+        phase,
+        b' ',
+        clock_digit(state),
+        b' ',
+    ]);
+    append_nodes(out, &world.nodes[..(nodecount as usize).min(Plan::NODES)]);
+    append_refusal(out, refusal);
 }
 
 // The line of a line that is no move.
-pub fn append_bad(buffer: &mut [u8], at: usize, number: u64) -> usize
-    ensures { Appended at (bad_line number) buffer.old buffer.new result }
+#[tactic(auto, using(base_text::proofs::Appends::writing), unfolding(crate::specs::Lines::bad_line))]
+pub fn append_bad(out: &mut Writer<'_>, number: u64)
+    ensures { out.new ≡ wrote (bad_line number) out.old }
 {
-    let a = append_decimal(buffer, at, number);
-    append(buffer, a, b" ?\n")
+    out.decimal(number);
+    out.append(b" ?\n");
 }

@@ -1,61 +1,66 @@
 // The line that tells why a master is awake.
 #![tactic(auto)]
 
-ghost use Rattle.std.specs.Prelude.{◌++◌};
-ghost use Rattle.base_text.specs.Text.{Appended, ascii, decimal};
+ghost use Rattle.std.specs.Prelude.{◌≡◌, ◌++◌};
+ghost use Rattle.base_text.specs.Text.{wrote, ascii, decimal};
+ghost use Rattle.machine_reason.specs.Reasons.{explained};
 ghost use Rattle.drill_why.specs.Line.{cause_word, reason_word, why_word, why_line};
 
-use base_text::{append, append_decimal};
-use machine_reason::{Cause, Explained, Reason};
+use base_refusals::Refusal;
+use base_text::Writer;
+use machine_reason::{Cause, Reason};
 
-fn append_cause(buffer: &mut [u8], at: usize, cause: Cause) -> usize
-    ensures { Appended at (cause_word cause) buffer.old buffer.new result }
+#[tactic(auto, using(base_text::proofs::Appends::writing), unfolding(crate::specs::Line::cause_word))]
+fn append_cause(out: &mut Writer<'_>, cause: Cause)
+    ensures { out.new ≡ wrote (cause_word cause) out.old }
 {
     match cause {
-        Cause::New => append(buffer, at, b"new"),
-        Cause::Refused => append(buffer, at, b"refused"),
-        Cause::Aged => append(buffer, at, b"aged"),
-        Cause::Damaged => append(buffer, at, b"damaged"),
-        Cause::Woken => append(buffer, at, b"wake"),
+        Cause::New => out.append(b"new"),
+        Cause::Refused => out.append(b"refused"),
+        Cause::Aged => out.append(b"aged"),
+        Cause::Damaged => out.append(b"damaged"),
+        Cause::Woken => out.append(b"wake"),
     }
 }
 
-fn append_node(buffer: &mut [u8], at: usize, node: u8, cause: Cause) -> usize
-    ensures { Appended at (decimal node ++ ascii " " ++ cause_word cause) buffer.old buffer.new result }
+#[tactic(auto, using(base_text::proofs::Appends::writing))]
+fn append_node(out: &mut Writer<'_>, node: u8, cause: Cause)
+    ensures { out.new ≡ wrote (decimal node ++ ascii " " ++ cause_word cause) out.old }
 {
-    let a = append_decimal(buffer, at, node as u64);
-    let b = append(buffer, a, b" ");
-    append_cause(buffer, b, cause)
+    out.decimal(node as u64);
+    out.append(b" ");
+    append_cause(out, cause);
 }
 
-fn append_reason(buffer: &mut [u8], at: usize, reason: Reason) -> usize
-    ensures { Appended at (reason_word reason) buffer.old buffer.new result }
+#[tactic(auto, using(base_text::proofs::Appends::writing), unfolding(crate::specs::Line::reason_word))]
+fn append_reason(out: &mut Writer<'_>, reason: Reason)
+    ensures { out.new ≡ wrote (reason_word reason) out.old }
 {
     match reason {
-        Reason::Nothing => append(buffer, at, b"none"),
-        Reason::UnderWay => append(buffer, at, b"sleep"),
-        Reason::Owed => append(buffer, at, b"owed"),
-        Reason::Own => append(buffer, at, b"own"),
-        Reason::Node { node, cause } => append_node(buffer, at, node, cause),
-        Reason::Profile => append(buffer, at, b"profile"),
+        Reason::Nothing => out.append(b"none"),
+        Reason::UnderWay => out.append(b"sleep"),
+        Reason::Owed => out.append(b"owed"),
+        Reason::Own => out.append(b"own"),
+        Reason::Node { node, cause } => append_node(out, node, cause),
+        Reason::Profile => out.append(b"profile"),
     }
 }
 
-fn append_word(buffer: &mut [u8], at: usize, explained: Explained) -> usize
-    ensures { Appended at (why_word explained) buffer.old buffer.new result }
+#[tactic(auto, using(base_text::proofs::Appends::writing), unfolding(crate::specs::Line::why_word))]
+fn append_word(out: &mut Writer<'_>, why: Result<Reason, Refusal>)
+    ensures { out.new ≡ wrote (why_word (explained why)) out.old }
 {
-    if explained.refusal == 0 {
-        let reason = explained.reason;
-        append_reason(buffer, at, reason)
-    } else {
-        append_decimal(buffer, at, explained.refusal as u64)
+    match why {
+        Ok(reason) => append_reason(out, reason),
+        Err(refusal) => out.decimal(u64::from(refusal.number())),
     }
 }
 
-pub fn append_why(buffer: &mut [u8], at: usize, explained: Explained) -> usize
-    ensures { Appended at (why_line explained) buffer.old buffer.new result }
+#[tactic(auto, using(base_text::proofs::Appends::writing), unfolding(crate::specs::Line::why_line))]
+pub fn append_why(out: &mut Writer<'_>, why: Result<Reason, Refusal>)
+    ensures { out.new ≡ wrote (why_line (explained why)) out.old }
 {
-    let a = append(buffer, at, b"why ");
-    let b = append_word(buffer, a, explained);
-    append(buffer, b, b"\n")
+    out.append(b"why ");
+    append_word(out, why);
+    out.append(b"\n");
 }

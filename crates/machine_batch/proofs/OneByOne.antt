@@ -20,7 +20,7 @@ use Rattle.machine_events.specs.declared.EventRecord.{EventRecord}
 use Rattle.machine_events.specs.declared.ReplyRecord.{ReplyRecord}
 use Rattle.machine_events.specs.Events.{event_of}
 use Rattle.machine_events.specs.Replies.{reply_record}
-use Rattle.machine_batch.specs.declared.Batch.{Batch}
+use Rattle.machine_batch.specs.Batch.{Batch}
 use Rattle.machine_batch.specs.Batch.{stepped, master_after, replies_to, batch_of, batch_replies}
 
 abbrev done : Master → Batch

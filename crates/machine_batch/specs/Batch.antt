@@ -1,6 +1,8 @@
 -- W-201: "lend a list of event records and get the answers in a second list, one for each".
-use Rattle.std.specs.Prelude.{ℕ, Bool, List, [], ◌∷◌, length, ltb}
+use Rattle.std.specs.Prelude.{ℕ, Bool, List, [], ◌∷◌, length, ltb, Result, Ok, Err}
 use Rattle.base_lists.specs.Bounded.{if_else}
+use Rattle.base_refusals.specs.declared.Refusal.{Refusal}
+use Rattle.base_refusals.specs.Numbers.{number}
 use Rattle.set_plan.specs.declared.Plan.{Plan}
 use Rattle.machine_master.specs.declared.Master.{Master}
 use Rattle.machine_master.specs.declared.Reply.{Reply}
@@ -10,7 +12,6 @@ use Rattle.machine_events.specs.declared.ReplyRecord.{ReplyRecord}
 use Rattle.machine_events.specs.Events.{event_of}
 use Rattle.machine_events.specs.Replies.{reply_record}
 use Rattle.machine_batch.specs.declared.Stepped.{Stepped}
-use Rattle.machine_batch.specs.declared.Batch.{Batch}
 
 abbrev given : Reply → Stepped
 given r = record { master = r.master; reply = reply_record r }
@@ -37,6 +38,16 @@ replies_to p m (e ∷ es) (r ∷ rs) = (stepped p m e).reply ∷ replies_to p (s
 -- 22, "answer list too short, before all others"
 abbrev pub too_short : List EventRecord → List ReplyRecord → Bool
 too_short es rs = ltb (length rs) (length es)
+
+-- what a list gives: 22 or 0, and the master after the last event
+pub record Batch : Type 0 where
+  pub refusal : ℕ
+  pub master : Master
+
+-- the value that a call on a master returns, so told
+abbrev pub batch_told : Master → Result Master Refusal → Batch
+batch_told m (Ok after) = record { refusal = 0; master = after }
+batch_told m (Err refusal) = record { refusal = number refusal; master = m }
 
 -- "If the answer list is shorter than the event list nothing is done"
 abbrev pub batch_of : Plan → Master → List EventRecord → List ReplyRecord → Batch

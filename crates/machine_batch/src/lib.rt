@@ -2,11 +2,13 @@
 #![tactic(auto)]
 
 ghost use Rattle.std.specs.Prelude.{◌≡◌};
-ghost use Rattle.machine_batch.specs.Batch.{stepped_by, batch_of, batch_replies};
+ghost use Rattle.base_refusals.specs.Numbers.{number_of};
+ghost use Rattle.machine_batch.specs.Batch.{stepped_by, batch_told, batch_of, batch_replies};
 
+use base_refusals::Refusal;
 use machine_events::{EventRecord, ReplyRecord, command_number, event_of};
 use machine_master::Master;
-use set_plan::{Plan, plan_refusal};
+use set_plan::{Plan, judge};
 
 // The master after an event, and the reply to it.
 #[derive(Clone, Copy)]
@@ -15,53 +17,45 @@ pub struct Stepped {
     pub reply: ReplyRecord,
 }
 
-// 22 or 0, and the master after the last event.
-#[derive(Clone, Copy)]
-pub struct Batch {
-    pub refusal: u8,
-    pub master: Master,
-}
-
-// A step by an event record under a plan whose refusal is known.
-fn step_record(refusal: u8, plan: Plan, master: Master, event: EventRecord) -> Stepped
-    ensures { result ≡ stepped_by refusal plan master event }
+// A step by an event record under a plan whose judgement is known.
+#[tactic(auto, unfolding(crate::specs::Batch::stepped_by))]
+fn step_record(
+    judged: Result<(), Refusal>,
+    plan: Plan,
+    master: Master,
+    event: EventRecord,
+) -> Stepped
+    ensures { result ≡ stepped_by (number_of judged) plan master event }
 {
-    let reply = master.step_judged(refusal, plan, event_of(event));
-    let next = reply.master;
-    let command = reply.command;
+    let reply = master.step_judged(judged, plan, event_of(event));
     Stepped {
-        master: next,
+        master: reply.master,
         reply: ReplyRecord {
             refusal: reply.refusal,
             node: reply.node,
-            command: command_number(command),
+            command: command_number(reply.command),
             lost: reply.lost,
         },
     }
 }
 
 // Each event in order, its reply to its own place. The plan is judged once.
-pub fn run(plan: Plan, master: Master, events: &[EventRecord], replies: &mut [ReplyRecord]) -> Batch
-    ensures { (result ≡ batch_of plan master events.now replies.old)
+pub fn run(
+    plan: Plan,
+    master: Master,
+    events: &[EventRecord],
+    replies: &mut [ReplyRecord],
+) -> Result<Master, Refusal>
+    ensures { (batch_told master result ≡ batch_of plan master events.now replies.old)
         × (replies.new ≡ batch_replies plan master events.now replies.old) }
 {
-    if replies.len() < events.len() {
-        return Batch {
-            refusal: 22,
-            master,
-        };
-    }
-    let refusal = plan_refusal(plan);
+    Refusal::RepliesShort.unless(events.len() <= replies.len())?;
+    let judged = judge(plan);
     let mut current = master;
-    let mut i = 0;
-    while i < events.len() {
-        let s = step_record(refusal, plan, current, events[i]);
+    for (i, event) in events.iter().enumerate() {
+        let s = step_record(judged, plan, current, *event);
         current = s.master;
         replies[i] = s.reply;
-        i += 1;
     }
-    Batch {
-        refusal: 0,
-        master: current,
-    }
+    Ok(current)
 }

@@ -7,7 +7,8 @@ ghost use Rattle.machine_events.specs.Replies.{command_number};
 
 use machine_master::{Answer, Command, Event};
 
-// An event of the master. Each field can hold a wrong number; those that a kind does not use are ignored.
+// An event of the master, for C, which lends lists of them: so each field is a number, and can hold a wrong one; those that a kind does not use
+// are ignored.
 #[repr(C)]
 #[derive(Clone, Copy)]
 pub struct EventRecord {
@@ -23,7 +24,7 @@ pub struct EventRecord {
     pub flag: u8,
 }
 
-// What a step gives beside the master.
+// What a step gives beside the master, in numbers for C.
 #[repr(C)]
 #[derive(Clone, Copy)]
 pub struct ReplyRecord {
@@ -53,19 +54,13 @@ pub fn no_event() -> Event
 pub fn plain_event(kind: u8) -> Event
     ensures { result ≡ plain_event kind }
 {
-    if kind == 0 {
-        return Event::Tick;
+    match kind {
+        0 => Event::Tick,
+        2 => Event::Pulse,
+        3 => Event::WakeAsk,
+        5 => Event::SleepAsk,
+        _ => no_event(),
     }
-    if kind == 2 {
-        return Event::Pulse;
-    }
-    if kind == 3 {
-        return Event::WakeAsk;
-    }
-    if kind == 5 {
-        return Event::SleepAsk;
-    }
-    no_event()
 }
 
 // The event of a kind that has a flag.
@@ -73,15 +68,14 @@ pub fn flagged_event(kind: u8, flag: u8) -> Event
     ensures { result ≡ flagged_event kind flag }
 {
     if flag < 2 {
-        if kind == 4 {
-            return Event::Permission(flag == 1);
+        match kind {
+            4 => Event::Permission(flag == 1),
+            6 => Event::SendResult(flag == 1),
+            _ => no_event(),
         }
-        if kind == 6 {
-            return Event::SendResult(flag == 1);
-        }
-        return no_event();
+    } else {
+        no_event()
     }
-    no_event()
 }
 
 pub fn answer_event(event: EventRecord) -> Event
@@ -104,23 +98,16 @@ pub fn answer_event(event: EventRecord) -> Event
 pub fn event_of(event: EventRecord) -> Event
     ensures { result ≡ event_of event }
 {
-    let kind = event.kind;
-    if kind == 1 {
-        return answer_event(event);
+    match event.kind {
+        1 => answer_event(event),
+        4 | 6 => flagged_event(event.kind, event.flag),
+        _ => plain_event(event.kind),
     }
-    if (kind == 4) | (kind == 6) {
-        return flagged_event(kind, event.flag);
-    }
-    plain_event(kind)
 }
 
+// By its place in the enum: 0 nothing, 1 clock on, 2 clock off, 3 sleep message.
 pub fn command_number(command: Command) -> u8
     ensures { result ≡ command_number command }
 {
-    match command {
-        Command::Nothing => 0,
-        Command::ClockOn => 1,
-        Command::ClockOff => 2,
-        Command::SleepMessage => 3,
-    }
+    command as u8
 }

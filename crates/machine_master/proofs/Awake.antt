@@ -1,10 +1,9 @@
 -- W-206: a master that never sleeps stays in Normal, its phase Open.
-use Rattle.std.proofs.Common.{◌≡◌, ℕ, Bool, true, false, eqb, List, set, sym, refl, subst}
+use Rattle.std.proofs.Common.{◌≡◌, ℕ, Bool, true, false, eqb, List, set, sym, refl, subst, Option, Some, None}
 use Rattle.base_lists.proofs.Choices.{by_test, no_way}
 use Rattle.machine_state.specs.declared.State.{State}
 use Rattle.set_plan.specs.declared.Row.{Row}
 use Rattle.set_plan.specs.declared.Times.{Times}
-use Rattle.set_plan.specs.declared.Lookup.{Lookup}
 use Rattle.set_plan.specs.declared.Plan.{Plan}
 use Rattle.set_plan.specs.Answering.{master_number, is_counted, accepts}
 use Rattle.set_plan.specs.Profile.{sleeps}
@@ -85,18 +84,18 @@ module _ (m : Master) where
       (λ w. (refl, refl)))
       (λ z. (refl, refl)))
 
-  answer-awake : (row : Lookup) (a : Answer) → Stays (answer_step row a here)
-  answer-awake Lookup.Missing a = (refl, refl)
-  answer-awake (Lookup.Found row) a = row_awake row a
+  answer-awake : (row : Option Row) (a : Answer) → Stays (answer_step row a here)
+  answer-awake None a = (refl, refl)
+  answer-awake (Some row) a = row_awake row a
 
-  pub awake-answer : (row : Lookup) (a : Answer) → Awake m → Stays (answer_step row a m)
+  pub awake-answer : (row : Option Row) (a : Answer) → Awake m → Stays (answer_step row a m)
   awake-answer row a = at_awake (λ (x : Master). Stays (answer_step row a x)) m (answer-awake row a)
 
 -- so every step leaves it so
 abbrev Left : Reply → Type 0
 Left r = Awake r.master
 
-act-awake : (nodecount : ℕ) (t : Times) (row : Lookup) (m : Master) (e : Event) → Awake m → Left (act_with false nodecount t row m e)
+act-awake : (nodecount : ℕ) (t : Times) (row : Option Row) (m : Master) (e : Event) → Awake m → Left (act_with false nodecount t row m e)
 act-awake nodecount t row m Event.Tick a = (awake_tick_lem m t a).0
 act-awake nodecount t row m (Event.Answer x) a = (awake-answer m row x a).0
 act-awake nodecount t row m Event.Pulse a = (awake_wake_up m a).0

@@ -1,12 +1,11 @@
 -- The commands switch the clock so that it is on exactly in Normal, and off only at the end of Closing.
-use Rattle.std.proofs.Common.{◌≡◌, ℕ, ◌+◌, Bool, true, false, eqb, ltb, sym, refl, ap, ◌∙◌}
+use Rattle.std.proofs.Common.{◌≡◌, ℕ, ◌+◌, Bool, true, false, eqb, ltb, sym, refl, ap, ◌∙◌, Option, Some, None}
 use Rattle.base_lists.specs.Bounded.{first_to}
 use Rattle.base_lists.proofs.Choices.{by_test, no_way}
 use Rattle.machine_state.specs.declared.State.{State}
 use Rattle.machine_state.specs.State.{is_normal}
 use Rattle.set_plan.specs.declared.Row.{Row}
 use Rattle.set_plan.specs.declared.Times.{Times}
-use Rattle.set_plan.specs.declared.Lookup.{Lookup}
 use Rattle.set_plan.specs.declared.Plan.{Plan}
 use Rattle.set_plan.specs.Profile.{sleeps}
 use Rattle.set_plan.specs.Rules.{plan_refusal}
@@ -109,9 +108,9 @@ module _ (m : Master) where
       (λ w. still _ refl refl (call_back_state (let_go row.publisher (with_cause _ row.publisher m)))))
       (λ z. still _ refl refl (call_back_state (let_go row.publisher (with_cause _ row.publisher m)))))
 
-  answer_clocked : (s : State) (row : Lookup) (a : Answer) → Clocked m (answer_by s row a m)
-  answer_clocked State.Normal Lookup.Missing a = still _ refl refl refl
-  answer_clocked State.Normal (Lookup.Found row) a = row_clocked row a
+  answer_clocked : (s : State) (row : Option Row) (a : Answer) → Clocked m (answer_by s row a m)
+  answer_clocked State.Normal None a = still _ refl refl refl
+  answer_clocked State.Normal (Some row) a = row_clocked row a
   answer_clocked State.Standby row a = still _ refl refl refl
   answer_clocked State.Sleep row a = still _ refl refl refl
 

@@ -1,5 +1,5 @@
 -- From a state in range, under an accepted plan, every step gives a state in range.
-use Rattle.std.proofs.Common.{◌≡◌, ℕ, ◌+◌, ◌<◌, ◌≤◌, Bool, true, false, not, ◌&&◌, ◌||◌, eqb, ltb, leb, List, length, get_or, set, sym, refl, ap, ◌∙◌, ap₂, arith, get_or-set_other, get_or-set_same, ltb-true, le-ltb, lt-ltb, le-leb}
+use Rattle.std.proofs.Common.{◌≡◌, ℕ, ◌+◌, ◌<◌, ◌≤◌, Bool, true, false, not, ◌&&◌, ◌||◌, eqb, ltb, leb, List, length, get_or, set, sym, refl, ap, ◌∙◌, ap₂, arith, get_or-set_other, get_or-set_same, ltb-true, le-ltb, lt-ltb, le-leb, Option, Some, None}
 use lib.ListN.{get_or-replicate, get_or-eq_default}
 use lib.Seq.{set_out}
 use native.Mathlib.Decide.{dec_lt, ℕ_discrete}
@@ -14,7 +14,6 @@ use Rattle.machine_state.specs.Counts.{counts_below}
 use Rattle.machine_state.proofs.CountTables.{counts_set}
 use Rattle.set_plan.specs.declared.Row.{Row}
 use Rattle.set_plan.specs.declared.Times.{Times}
-use Rattle.set_plan.specs.declared.Lookup.{Lookup}
 use Rattle.set_plan.specs.declared.Plan.{Plan}
 use Rattle.set_plan.specs.Profile.{sleeps}
 use Rattle.set_plan.specs.Rules.{plan_refusal}
@@ -371,10 +370,10 @@ module _ (nodecount : ℕ) (t : Times) (a : TimesFit t) where
       (λ z. by_test Kept (accepts row x.length) (λ w. whole_fits row x m on (l y) c f) (λ w. refused_fits row.publisher _ m on (l y) refl f))
       (λ z. refused_fits row.publisher _ m on (l y) refl f))
 
-  answer_fits : (s : State) (row : Lookup) (x : Answer) (m : Master) → m.state ≡ s
-      → ((r : Row) → row ≡ Lookup.Found r → eqb r.publisher master_number ≡ false → r.publisher < nodecount) → x.count < 4 → Fits nodecount t m → Kept (answer_by s row x m)
-  answer_fits State.Normal Lookup.Missing x m e l c f = f
-  answer_fits State.Normal (Lookup.Found r) x m e l c f = row_fits r x m (ap is_normal e) (l r refl) c f
+  answer_fits : (s : State) (row : Option Row) (x : Answer) (m : Master) → m.state ≡ s
+      → ((r : Row) → row ≡ Some r → eqb r.publisher master_number ≡ false → r.publisher < nodecount) → x.count < 4 → Fits nodecount t m → Kept (answer_by s row x m)
+  answer_fits State.Normal None x m e l c f = f
+  answer_fits State.Normal (Some r) x m e l c f = row_fits r x m (ap is_normal e) (l r refl) c f
   answer_fits State.Standby row x m e l c f = f
   answer_fits State.Sleep row x m e l c f = f
 

@@ -1,10 +1,9 @@
 -- W-205: "the memory has no bearing on any old answer".
-use Rattle.std.proofs.Common.{◌≡◌, ℕ, ◌+◌, Bool, true, false, eqb, ltb, sym, refl, ap, ◌∙◌}
+use Rattle.std.proofs.Common.{◌≡◌, ℕ, ◌+◌, Bool, true, false, eqb, ltb, sym, refl, ap, ◌∙◌, Option, Some, None}
 use Rattle.base_lists.specs.Bounded.{if_else, first_to}
 use Rattle.machine_state.specs.declared.State.{State}
 use Rattle.set_plan.specs.declared.Row.{Row}
 use Rattle.set_plan.specs.declared.Times.{Times}
-use Rattle.set_plan.specs.declared.Lookup.{Lookup}
 use Rattle.set_plan.specs.declared.Plan.{Plan}
 use Rattle.set_plan.specs.Profile.{sleeps}
 use Rattle.set_plan.specs.Rules.{plan_refusal}
@@ -125,9 +124,9 @@ module _ (m : Master) where
       (alike _ _ (let_go_alike _ row.publisher m (bare m) refl) refl refl refl refl))
       (alike _ _ (let_go_alike _ row.publisher m (bare m) refl) refl refl refl refl))
 
-  answer_alike : (s : State) (row : Lookup) (a : Answer) → SameButCauses (answer_by s row a m) (answer_by s row a (bare m))
-  answer_alike State.Normal Lookup.Missing a = alike _ _ refl refl refl refl refl
-  answer_alike State.Normal (Lookup.Found row) a = row_alike row a
+  answer_alike : (s : State) (row : Option Row) (a : Answer) → SameButCauses (answer_by s row a m) (answer_by s row a (bare m))
+  answer_alike State.Normal None a = alike _ _ refl refl refl refl refl
+  answer_alike State.Normal (Some row) a = row_alike row a
   answer_alike State.Standby row a = alike _ _ refl refl refl refl refl
   answer_alike State.Sleep row a = alike _ _ refl refl refl refl refl
 

@@ -1,11 +1,10 @@
 -- A refused step of the master changes nothing but by 13 and 14, commands nothing and reports nothing lost.
-use Rattle.std.proofs.Common.{◌≡◌, ℕ, ◌+◌, Bool, true, false, eqb, ltb, refl}
+use Rattle.std.proofs.Common.{◌≡◌, ℕ, ◌+◌, Bool, true, false, eqb, ltb, refl, Option, Some, None}
 use Rattle.base_lists.specs.Bounded.{first_to}
 use Rattle.base_lists.proofs.Choices.{by_test}
 use Rattle.machine_state.specs.declared.State.{State}
 use Rattle.set_plan.specs.declared.Row.{Row}
 use Rattle.set_plan.specs.declared.Times.{Times}
-use Rattle.set_plan.specs.declared.Lookup.{Lookup}
 use Rattle.set_plan.specs.declared.Plan.{Plan}
 use Rattle.set_plan.specs.Profile.{sleeps}
 use Rattle.set_plan.specs.Rules.{plan_refusal}
@@ -88,9 +87,9 @@ module _ (m : Master) where
       (λ w. record { nothing = λ h. record { command = refl; lost = refl }; same = λ h n13 n14. absurd (n14 refl) }))
       (λ z. record { nothing = λ h. record { command = refl; lost = refl }; same = λ h n13 n14. absurd (n13 refl) }))
 
-  answer_plain : (s : State) (row : Lookup) (a : Answer) → Plain m (answer_by s row a m)
-  answer_plain State.Normal Lookup.Missing a = refused _ refl refl refl
-  answer_plain State.Normal (Lookup.Found row) a = row_plain row a
+  answer_plain : (s : State) (row : Option Row) (a : Answer) → Plain m (answer_by s row a m)
+  answer_plain State.Normal None a = refused _ refl refl refl
+  answer_plain State.Normal (Some row) a = row_plain row a
   answer_plain State.Standby row a = refused _ refl refl refl
   answer_plain State.Sleep row a = refused _ refl refl refl
 

@@ -1,5 +1,5 @@
 -- A step of the master keeps the places of its permissions, their causes and its sequence counts.
-use Rattle.std.proofs.Common.{◌≡◌, ℕ, ◌+◌, Bool, true, false, eqb, ltb, length, refl, ◌∙◌, length-set}
+use Rattle.std.proofs.Common.{◌≡◌, ℕ, ◌+◌, Bool, true, false, eqb, ltb, length, refl, ◌∙◌, length-set, Option, Some, None}
 use Rattle.base_lists.specs.Bounded.{first_to}
 use Rattle.base_lists.proofs.Choices.{by_test}
 use Rattle.base_lists.proofs.Tables.{length-tab}
@@ -7,7 +7,6 @@ use Rattle.machine_state.specs.declared.State.{State}
 use Rattle.machine_state.specs.State.{is_normal}
 use Rattle.set_plan.specs.declared.Row.{Row}
 use Rattle.set_plan.specs.declared.Times.{Times}
-use Rattle.set_plan.specs.declared.Lookup.{Lookup}
 use Rattle.set_plan.specs.declared.Plan.{Plan}
 use Rattle.set_plan.specs.Limits.{max_nodes, reqids}
 use Rattle.set_plan.specs.Profile.{sleeps}
@@ -122,9 +121,9 @@ module _ (m : Master) (h : Placed m) where
       (λ w. damaged_placed _ row.publisher))
       (λ z. damaged_placed _ row.publisher))
 
-  answer_placed : (s : State) (row : Lookup) (a : Answer) → After (answer_by s row a m)
-  answer_placed State.Normal Lookup.Missing a = h
-  answer_placed State.Normal (Lookup.Found row) a = row_placed row a
+  answer_placed : (s : State) (row : Option Row) (a : Answer) → After (answer_by s row a m)
+  answer_placed State.Normal None a = h
+  answer_placed State.Normal (Some row) a = row_placed row a
   answer_placed State.Standby row a = h
   answer_placed State.Sleep row a = h
 

@@ -1,9 +1,8 @@
 -- Answers that reach the master.
-use Rattle.std.specs.Prelude.{ℕ, ◌+◌, ◌-◌, ◌%◌, Bool, ◌&&◌, ◌==◌, nat_lt, slice_index, slice_set}
+use Rattle.std.specs.Prelude.{ℕ, ◌+◌, ◌-◌, ◌%◌, Bool, ◌&&◌, ◌==◌, nat_lt, slice_index, slice_set, Option, Some, None}
 use Rattle.base_lists.specs.Bounded.{if_else}
 use Rattle.machine_state.specs.declared.State.{State}
 use Rattle.set_plan.specs.declared.Row.{Row}
-use Rattle.set_plan.specs.declared.Lookup.{Lookup}
 use Rattle.set_plan.specs.Limits.{seq_counts}
 use Rattle.set_plan.specs.Answering.{master_number, is_counted, accepts}
 use Rattle.machine_master.specs.declared.Command.{Command}
@@ -55,15 +54,15 @@ row_step row a m =
     (damaged row.publisher 13 m))
 
 -- 12 for "ReqId not in the plan"
-abbrev pub answer_row : Lookup → Answer → Master → Reply
-answer_row Lookup.Missing a m = refuse m 12
-answer_row (Lookup.Found row) a m = row_step row a m
+abbrev pub answer_row : Option Row → Answer → Master → Reply
+answer_row None a m = refuse m 12
+answer_row (Some row) a m = row_step row a m
 
 -- "Answer (Normal only)"
-abbrev pub answer_by : State → Lookup → Answer → Master → Reply
+abbrev pub answer_by : State → Option Row → Answer → Master → Reply
 answer_by State.Normal row a m = answer_row row a m
 answer_by State.Standby row a m = refuse m 16
 answer_by State.Sleep row a m = refuse m 16
 
-abbrev pub answer_step : Lookup → Answer → Master → Reply
+abbrev pub answer_step : Option Row → Answer → Master → Reply
 answer_step row a m = answer_by m.state row a m

@@ -1,9 +1,9 @@
 -- The master's step.
-use Rattle.std.specs.Prelude.{ℕ, Bool, true, ◌&&◌, ◌==◌, nat_lt}
+use Rattle.set_plan.specs.declared.Row.{Row}
+use Rattle.std.specs.Prelude.{ℕ, Bool, true, ◌&&◌, ◌==◌, nat_lt, Option, Some, None}
 use Rattle.base_lists.specs.Bounded.{if_else}
 use Rattle.set_plan.specs.declared.Times.{Times}
 use Rattle.set_plan.specs.declared.Plan.{Plan}
-use Rattle.set_plan.specs.declared.Lookup.{Lookup}
 use Rattle.set_plan.specs.Limits.{reqids, seq_counts}
 use Rattle.set_plan.specs.Profile.{sleeps}
 use Rattle.set_plan.specs.Rules.{plan_refusal}
@@ -28,19 +28,29 @@ event_right (Event.Permission permitted) = true
 event_right Event.SleepAsk = true
 event_right (Event.SendResult sent) = true
 
--- the row that an event asks a plan for
-abbrev pub row_asked : Plan → Event → Lookup
-row_asked p Event.Tick = Lookup.Missing
+-- the ReqId whose row an event asks a plan for
+abbrev pub reqid_asked : Event → Option ℕ
+reqid_asked Event.Tick = None
+reqid_asked (Event.Answer a) = Some a.reqid
+reqid_asked Event.Pulse = None
+reqid_asked Event.WakeAsk = None
+reqid_asked (Event.Permission permitted) = None
+reqid_asked Event.SleepAsk = None
+reqid_asked (Event.SendResult sent) = None
+
+-- that row
+abbrev pub row_asked : Plan → Event → Option Row
+row_asked p Event.Tick = None
 row_asked p (Event.Answer a) = find_row p a.reqid
-row_asked p Event.Pulse = Lookup.Missing
-row_asked p Event.WakeAsk = Lookup.Missing
-row_asked p (Event.Permission permitted) = Lookup.Missing
-row_asked p Event.SleepAsk = Lookup.Missing
-row_asked p (Event.SendResult sent) = Lookup.Missing
+row_asked p Event.Pulse = None
+row_asked p Event.WakeAsk = None
+row_asked p (Event.Permission permitted) = None
+row_asked p Event.SleepAsk = None
+row_asked p (Event.SendResult sent) = None
 
 -- what each event does, 16 and the later numbers included, by what it needs of a plan: whether its machines sleep, the number of nodes, the times
 -- and the row asked for
-abbrev pub act_with : Bool → ℕ → Times → Lookup → Master → Event → Reply
+abbrev pub act_with : Bool → ℕ → Times → Option Row → Master → Event → Reply
 act_with sleeps nodecount t row m Event.Tick = tick_step t m
 act_with sleeps nodecount t row m (Event.Answer a) = answer_step row a m
 act_with sleeps nodecount t row m Event.Pulse = wake_up_step m
@@ -50,11 +60,11 @@ act_with sleeps nodecount t row m Event.SleepAsk = sleep_ask_step sleeps nodecou
 act_with sleeps nodecount t row m (Event.SendResult sent) = send_result_step sent m
 
 -- "then 11, 15, 16, then the rest by number": from 15 on, where plan and state are judged
-abbrev pub step_in_range : Bool → ℕ → Times → Lookup → Master → Event → Reply
+abbrev pub step_in_range : Bool → ℕ → Times → Option Row → Master → Event → Reply
 step_in_range sleeps nodecount t row m e = if_else (event_right e) (act_with sleeps nodecount t row m e) (refuse m 15)
 
 -- from 11 on, where the plan is judged
-abbrev pub step_with : Bool → ℕ → Times → Lookup → Master → Event → Reply
+abbrev pub step_with : Bool → ℕ → Times → Option Row → Master → Event → Reply
 step_with sleeps nodecount t row m e = if_else (in_range sleeps nodecount t m) (step_in_range sleeps nodecount t row m e) (refuse m 11)
 
 -- the same under a plan

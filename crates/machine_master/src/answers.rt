@@ -1,10 +1,12 @@
 // Answers that reach the master.
 ghost use Rattle.std.specs.Prelude.{◌≡◌};
+ghost use Rattle.base_refusals.specs.Numbers.{number};
 ghost use Rattle.machine_master.specs.Answers.{lost_after, damaged, act_on_bits, whole_step, row_step, answer_step};
 
-use crate::{Answer, Command, Hold, Master, Reply, refuse};
+use crate::{Answer, Hold, Master, Reply, refuse, silent};
+use base_refusals::Refusal;
 use machine_state::{State, count_of, with_count};
-use set_plan::{Lookup, Plan, Row};
+use set_plan::{Plan, Row};
 
 // The answers lost between the last count and this one.
 pub fn lost_after(last: u8, count: u8) -> u8
@@ -20,8 +22,8 @@ pub fn lost_after(last: u8, count: u8) -> u8
 
 impl Master {
     // A damaged answer, or one of a wrong length.
-    fn damaged(self, publisher: u8, refusal: u8) -> Reply
-        ensures { result ≡ damaged publisher refusal self }
+    fn damaged(self, publisher: u8, refusal: Refusal) -> Reply
+        ensures { result ≡ damaged publisher (number refusal) self }
     {
         let marked = self.with_hold(publisher, Master::NO_HOLD, Master::DAMAGED);
         refuse(marked.call_back(), refusal)
@@ -33,40 +35,29 @@ impl Master {
     {
         if wake {
             self.drop_all().because(Master::WAKE, publisher).call_back()
+        } else if permission {
+            let given = Hold { held: true, age: 0 };
+            self.with_hold(publisher, given, Master::NEW)
         } else {
-            if permission {
-                let given = Hold { held: true, age: 0 };
-                self.with_hold(publisher, given, Master::NEW)
-            } else {
-                self.with_hold(publisher, Master::NO_HOLD, Master::REFUSED)
-                    .call_back()
-            }
+            self.with_hold(publisher, Master::NO_HOLD, Master::REFUSED)
+                .call_back()
         }
     }
 
     fn whole(mut self, row: Row, answer: Answer) -> Reply
         ensures { result ≡ whole_step row answer self }
     {
+        // Two calls: one would be inlined, and the drill slower by what is then copied field by field.
         if row.is_counted() {
-            let old = self.counts;
-            let lost = lost_after(count_of(old, row.reqid), answer.count);
-            let counts = with_count(old, row.reqid, answer.count);
-            self.counts = counts;
+            let lost = lost_after(count_of(self.counts, row.reqid), answer.count);
+            self.counts = with_count(self.counts, row.reqid, answer.count);
+            let master = self.act_on_bits(row.publisher, answer.permission, answer.wake);
             Reply {
-                master: self.act_on_bits(row.publisher, answer.permission, answer.wake),
-                command: Command::Nothing,
-                refusal: 0,
-                node: 0,
                 lost,
+                ..silent(master)
             }
         } else {
-            Reply {
-                master: self.act_on_bits(row.publisher, answer.permission, answer.wake),
-                command: Command::Nothing,
-                refusal: 0,
-                node: 0,
-                lost: 0,
-            }
+            silent(self.act_on_bits(row.publisher, answer.permission, answer.wake))
         }
     }
 
@@ -75,32 +66,27 @@ impl Master {
         ensures { result ≡ row_step row answer self }
     {
         if row.publisher == Plan::MASTER {
-            refuse(self, 12)
+            refuse(self, Refusal::NoReqId)
+        } else if answer.result != 0 {
+            self.damaged(row.publisher, Refusal::Damaged)
+        } else if row.accepts(answer.length) {
+            self.whole(row, answer)
         } else {
-            if answer.result == 0 {
-                if row.accepts(answer.length) {
-                    self.whole(row, answer)
-                } else {
-                    self.damaged(row.publisher, 14)
-                }
-            } else {
-                self.damaged(row.publisher, 13)
-            }
+            self.damaged(row.publisher, Refusal::WrongLength)
         }
     }
 
     // An answer, with what the plan has for its ReqId.
-    pub fn answer(self, row: Lookup, answer: Answer) -> Reply
+    pub fn answer(self, row: Option<Row>, answer: Answer) -> Reply
         ensures { result ≡ answer_step row answer self }
     {
         let state = self.state;
         match state {
             State::Normal => match row {
-                Lookup::Missing => refuse(self, 12),
-                Lookup::Found(found) => self.of_row(found, answer),
+                None => refuse(self, Refusal::NoReqId),
+                Some(found) => self.of_row(found, answer),
             },
-            State::Standby => refuse(self, 16),
-            State::Sleep => refuse(self, 16),
+            State::Standby | State::Sleep => refuse(self, Refusal::NeedsNormal),
         }
     }
 }

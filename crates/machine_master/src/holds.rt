@@ -12,17 +12,15 @@ use set_plan::Plan;
 pub fn older(window: u16, hold: Hold) -> Hold
     ensures { result ≡ older window hold }
 {
-    if hold.held {
-        if hold.age < window {
-            Hold {
-                held: true,
-                age: hold.age + 1,
-            }
-        } else {
-            Master::NO_HOLD
+    if !hold.held {
+        hold
+    } else if hold.age < window {
+        Hold {
+            age: hold.age + 1,
+            ..hold
         }
     } else {
-        hold
+        Master::NO_HOLD
     }
 }
 
@@ -30,11 +28,8 @@ pub(crate) fn all_older(window: u16, holds: [Hold; Plan::NODES]) -> [Hold; Plan:
     ensures { result ≡ all_older window holds }
 {
     let mut next = [Master::NO_HOLD; Plan::NODES];
-    let mut i: usize = 0;
-    while i < Plan::NODES {
-        let hold = holds[i];
-        next[i] = older(window, hold);
-        i += 1;
+    for i in 0..Plan::NODES {
+        next[i] = older(window, holds[i]);
     }
     next
 }
@@ -43,8 +38,7 @@ pub(crate) fn all_older(window: u16, holds: [Hold; Plan::NODES]) -> [Hold; Plan:
 pub fn first_not_held(holds: [Hold; Plan::NODES], nodecount: u8) -> u8
     ensures { result ≡ first_to (not_held holds) nodecount }
 {
-    let mut i: u8 = 0;
-    while i < nodecount {
+    for i in 0..nodecount {
         if Plan::NODES <= (i as usize) {
             return i;
         }
@@ -52,7 +46,6 @@ pub fn first_not_held(holds: [Hold; Plan::NODES], nodecount: u8) -> u8
         if !hold.held {
             return i;
         }
-        i += 1;
     }
     nodecount
 }

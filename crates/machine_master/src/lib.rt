@@ -2,11 +2,13 @@
 #![tactic(auto)]
 
 ghost use Rattle.std.specs.Prelude.{◌≡◌};
+ghost use Rattle.base_refusals.specs.Numbers.{number, number_of};
 ghost use Rattle.machine_master.specs.Changes.{power_on, silent, commands, refuse};
-ghost use Rattle.machine_master.specs.Step.{event_right, row_asked, act_with, step_in_range, step_with, step_under, judged_step, master_step};
+ghost use Rattle.machine_master.specs.Step.{event_right, reqid_asked, row_asked, act_with, step_in_range, step_with, step_under, judged_step, master_step};
 
+use base_refusals::Refusal;
 use machine_state::{State, start_state};
-use set_plan::{Lookup, Plan, Row, Times, plan_refusal};
+use set_plan::{Plan, Row, Times, judge};
 
 mod answers;
 mod causes;
@@ -20,7 +22,7 @@ pub use answers::lost_after;
 pub use holds::{first_not_held, older};
 
 // How far a sleep message has come.
-#[derive(Clone, Copy)]
+#[derive(Clone, Copy, PartialEq, Eq)]
 pub enum Phase {
     Open,
     // its result is awaited
@@ -31,7 +33,7 @@ pub enum Phase {
     Closing,
 }
 
-#[derive(Clone, Copy)]
+#[derive(Clone, Copy, PartialEq, Eq)]
 pub enum Command {
     Nothing,
     ClockOn,
@@ -67,7 +69,7 @@ pub enum Event {
     SendResult(bool),
 }
 
-// A node's permission to sleep: held or not, and the ticks since it was given.
+// A node's permission to sleep: held or not, and the ticks since it was given. No Option<u16>: `in_range` refuses an age that is not held, as 11.
 #[derive(Clone, Copy)]
 pub struct Hold {
     pub held: bool,
@@ -80,7 +82,7 @@ pub struct Master {
     pub phase: Phase,
     pub permission: bool,
     pub holds: [Hold; Plan::NODES],
-    // why each permission is not held; NEW where it is, outside Normal and past the last node
+    // why each permission is not held; NEW where it is, outside Normal and past the last node. No enum: `in_range` refuses a number above WAKE, as 11
     pub causes: [u8; Plan::NODES],
     // the last count per ReqId, NO_COUNT for none
     pub counts: [u8; Row::REQIDS],
@@ -90,6 +92,7 @@ pub struct Master {
     pub ticks: u32,
 }
 
+// What a step gives. No Result: a refused step hands back the master too ("returns the state as given and no command").
 #[derive(Clone, Copy)]
 pub struct Reply {
     pub master: Master,
@@ -119,15 +122,12 @@ fn silent(master: Master) -> Reply
     commands(master, Command::Nothing)
 }
 
-fn refuse(master: Master, refusal: u8) -> Reply
-    ensures { result ≡ refuse master refusal }
+fn refuse(master: Master, refusal: Refusal) -> Reply
+    ensures { result ≡ refuse master (number refusal) }
 {
     Reply {
-        master,
-        command: Command::Nothing,
-        refusal,
-        node: 0,
-        lost: 0,
+        refusal: refusal.number(),
+        ..silent(master)
     }
 }
 
@@ -135,31 +135,30 @@ fn is_right(event: Event) -> bool
     ensures { result ≡ event_right event }
 {
     match event {
-        Event::Tick => true,
         Event::Answer(answer) => {
             ((answer.reqid as usize) < Row::REQIDS) & (answer.count < Row::COUNTS)
         }
-        Event::Pulse => true,
-        Event::WakeAsk => true,
-        Event::Permission(_) => true,
-        Event::SleepAsk => true,
-        Event::SendResult(_) => true,
+        _ => true,
+    }
+}
+
+impl Event {
+    // The ReqId whose row an event asks a plan for.
+    pub fn reqid(self) -> Option<u8>
+        ensures { result ≡ reqid_asked self }
+    {
+        match self {
+            Event::Answer(answer) => Some(answer.reqid),
+            _ => None,
+        }
     }
 }
 
 // The row that an event asks a plan for.
-fn row_asked(plan: Plan, event: Event) -> Lookup
+fn row_asked(plan: Plan, event: Event) -> Option<Row>
     ensures { result ≡ row_asked plan event }
 {
-    match event {
-        Event::Tick => Lookup::Missing,
-        Event::Answer(answer) => set_plan::find_row(plan, answer.reqid),
-        Event::Pulse => Lookup::Missing,
-        Event::WakeAsk => Lookup::Missing,
-        Event::Permission(_) => Lookup::Missing,
-        Event::SleepAsk => Lookup::Missing,
-        Event::SendResult(_) => Lookup::Missing,
-    }
+    set_plan::find_row(plan, event.reqid()?)
 }
 
 impl Master {
@@ -197,14 +196,20 @@ impl Master {
     }
 
     // What an event does once plan, state and event are judged.
-    fn act_with(self, sleeps: bool, nodecount: u8, times: Times, row: Lookup, event: Event) -> Reply
+    fn act_with(
+        self,
+        sleeps: bool,
+        nodecount: u8,
+        times: Times,
+        row: Option<Row>,
+        event: Event,
+    ) -> Reply
         ensures { result ≡ act_with sleeps nodecount times row self event }
     {
         match event {
             Event::Tick => self.tick(times),
             Event::Answer(answer) => self.answer(row, answer),
-            Event::Pulse => self.wake_up(),
-            Event::WakeAsk => self.wake_up(),
+            Event::Pulse | Event::WakeAsk => self.wake_up(),
             Event::Permission(permitted) => self.permit(permitted),
             Event::SleepAsk => self.sleep_ask(sleeps, nodecount),
             Event::SendResult(sent) => self.send_result(sent),
@@ -217,7 +222,7 @@ impl Master {
         sleeps: bool,
         nodecount: u8,
         times: Times,
-        row: Lookup,
+        row: Option<Row>,
         event: Event,
     ) -> Reply
         ensures { result ≡ step_in_range sleeps nodecount times row self event }
@@ -225,7 +230,7 @@ impl Master {
         if is_right(event) {
             self.act_with(sleeps, nodecount, times, row, event)
         } else {
-            refuse(self, 15)
+            refuse(self, Refusal::NoEvent)
         }
     }
 
@@ -235,7 +240,7 @@ impl Master {
         sleeps: bool,
         nodecount: u8,
         times: Times,
-        row: Lookup,
+        row: Option<Row>,
         event: Event,
     ) -> Reply
         ensures { result ≡ step_with sleeps nodecount times row self event }
@@ -243,7 +248,7 @@ impl Master {
         if self.in_range(sleeps, nodecount, times) {
             self.step_in_range(sleeps, nodecount, times, row, event)
         } else {
-            refuse(self, 11)
+            refuse(self, Refusal::NoState)
         }
     }
 
@@ -256,14 +261,13 @@ impl Master {
         self.step_with(plan.sleeps(), plan.nodecount, times, row, event)
     }
 
-    // A step of the master under a plan whose refusal is known, so that a list of events has it judged once.
-    pub fn step_judged(self, refusal: u8, plan: Plan, event: Event) -> Reply
-        ensures { result ≡ judged_step refusal plan self event }
+    // A step of the master under a plan whose judgement is known, so that a list of events has it judged once.
+    pub fn step_judged(self, judged: Result<(), Refusal>, plan: Plan, event: Event) -> Reply
+        ensures { result ≡ judged_step (number_of judged) plan self event }
     {
-        if refusal == 0 {
-            self.step_under(plan, event)
-        } else {
-            refuse(self, refusal)
+        match judged {
+            Ok(()) => self.step_under(plan, event),
+            Err(refusal) => refuse(self, refusal),
         }
     }
 
@@ -271,6 +275,6 @@ impl Master {
     pub fn step(self, plan: Plan, event: Event) -> Reply
         ensures { result ≡ master_step plan self event }
     {
-        self.step_judged(plan_refusal(plan), plan, event)
+        self.step_judged(judge(plan), plan, event)
     }
 }

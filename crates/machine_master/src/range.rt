@@ -9,50 +9,22 @@ use set_plan::{Plan, Times};
 fn phase_right(state: State, phase: Phase) -> bool
     ensures { result ≡ phase_right state phase }
 {
-    match state {
-        State::Normal => true,
-        State::Standby => match phase {
-            Phase::Open => true,
-            Phase::Sending => false,
-            Phase::Withdrawn => false,
-            Phase::Closing => false,
-        },
-        State::Sleep => match phase {
-            Phase::Open => true,
-            Phase::Sending => false,
-            Phase::Withdrawn => false,
-            Phase::Closing => false,
-        },
-    }
+    is_normal(state) | matches!(phase, Phase::Open)
 }
 
 fn is_awake(state: State, phase: Phase) -> bool
     ensures { result ≡ is_awake state phase }
 {
-    match state {
-        State::Normal => match phase {
-            Phase::Open => true,
-            Phase::Sending => false,
-            Phase::Withdrawn => false,
-            Phase::Closing => false,
-        },
-        State::Standby => false,
-        State::Sleep => false,
-    }
+    is_normal(state) & matches!(phase, Phase::Open)
 }
 
 fn delay_right(times: Times, state: State, phase: Phase, delay: u16) -> bool
     ensures { result ≡ delay_right times state phase delay }
 {
-    match state {
-        State::Normal => match phase {
-            Phase::Open => delay == 0,
-            Phase::Sending => delay == 0,
-            Phase::Withdrawn => delay == 0,
-            Phase::Closing => delay < times.stop,
-        },
-        State::Standby => delay < times.start,
-        State::Sleep => delay == 0,
+    match (state, phase) {
+        (State::Normal, Phase::Closing) => delay < times.stop,
+        (State::Standby, _) => delay < times.start,
+        _ => delay == 0,
     }
 }
 
@@ -76,7 +48,7 @@ fn cause_right(normal: bool, nodecount: u8, node: u8, held: bool, cause: u8) -> 
     }
 }
 
-// The permissions and their causes, in one loop.
+// The permissions and their causes, in one loop without an exit.
 fn nodes_right(
     normal: bool,
     nodecount: u8,
@@ -86,31 +58,25 @@ fn nodes_right(
 ) -> bool
     ensures { result ≡ (holds_right nodecount window holds && causes_right normal nodecount holds causes) }
 {
-    let mut right: bool = true;
-    let mut i: u8 = 0;
-    while (i as usize) < Plan::NODES {
-        let hold = holds[i as usize];
-        right = right
-            & hold_right(nodecount, window, i, hold)
-            & cause_right(normal, nodecount, i, hold.held, causes[i as usize]);
-        i += 1;
+    let mut right = true;
+    for (i, hold) in holds.iter().enumerate() {
+        let node = i as u8;
+        right &= hold_right(nodecount, window, node, *hold)
+            & cause_right(normal, nodecount, node, hold.held, causes[i]);
     }
     right
 }
 
 impl Master {
+    #[tactic(auto, unfolding(crate::specs::Range::in_range))]
     pub fn in_range(self, sleeps: bool, nodecount: u8, times: Times) -> bool
         ensures { result ≡ in_range sleeps nodecount times self }
     {
-        let state = self.state;
-        let phase = self.phase;
-        let counts = self.counts;
-        let holds = self.holds;
-        let causes = self.causes;
-        (sleeps | is_awake(state, phase))
-            & phase_right(state, phase)
-            & delay_right(times, state, phase, self.delay)
-            & counts_below(counts, Master::NO_COUNT + 1)
-            & nodes_right(is_normal(state), nodecount, times.window, holds, causes)
+        let normal = is_normal(self.state);
+        (sleeps | is_awake(self.state, self.phase))
+            & phase_right(self.state, self.phase)
+            & delay_right(times, self.state, self.phase, self.delay)
+            & counts_below(self.counts, Master::NO_COUNT + 1)
+            & nodes_right(normal, nodecount, times.window, self.holds, self.causes)
     }
 }

@@ -11,14 +11,10 @@ impl Master {
     fn aged(mut self, window: u16) -> Master
         ensures { result ≡ aged window self }
     {
-        let state = self.state;
-        let young = self.holds;
-        let old = self.causes;
-        let causes = causes::all_aged_out(is_normal(state), window, young, old);
-        let holds = holds::all_older(window, young);
-        self.causes = causes;
-        self.holds = holds;
-        self.ticks = std::num::wrapping_add_u32(self.ticks, 1);
+        let normal = is_normal(self.state);
+        self.causes = causes::all_aged_out(normal, window, self.holds, self.causes);
+        self.holds = holds::all_older(window, self.holds);
+        self.ticks = self.ticks.wrapping_add(1);
         self
     }
 
@@ -76,18 +72,11 @@ impl Master {
     pub fn tick(self, times: Times) -> Reply
         ensures { result ≡ tick_step times self }
     {
-        let state = self.state;
-        let phase = self.phase;
         let next = self.aged(times.window);
-        match state {
-            State::Sleep => silent(next),
-            State::Standby => next.standby_tick(times.start),
-            State::Normal => match phase {
-                Phase::Open => silent(next),
-                Phase::Sending => silent(next),
-                Phase::Withdrawn => silent(next),
-                Phase::Closing => next.closing_tick(times.stop),
-            },
+        match (self.state, self.phase) {
+            (State::Standby, _) => next.standby_tick(times.start),
+            (State::Normal, Phase::Closing) => next.closing_tick(times.stop),
+            _ => silent(next),
         }
     }
 }

@@ -20,12 +20,10 @@ impl Master {
     pub(crate) fn call_back(self) -> Master
         ensures { result ≡ call_back self }
     {
-        let phase = self.phase;
-        match phase {
-            Phase::Open => self,
+        match self.phase {
             Phase::Sending => self.in_phase(Phase::Withdrawn),
-            Phase::Withdrawn => self,
             Phase::Closing => self.in_phase(Phase::Open),
+            Phase::Open | Phase::Withdrawn => self,
         }
     }
 
@@ -33,8 +31,7 @@ impl Master {
     pub fn wake_up(self) -> Reply
         ensures { result ≡ wake_up_step self }
     {
-        let state = self.state;
-        match state {
+        match self.state {
             State::Normal => silent(self.drop_all().call_back()),
             State::Sleep => silent(Master {
                 state: State::Standby,

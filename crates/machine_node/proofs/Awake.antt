@@ -1,4 +1,6 @@
 -- W-206: a machine that never sleeps stays in Normal with no sleep delay, and with the clock on shows no error.
+use Rattle.set_plan.specs.declared.Row.{Row}
+use Rattle.std.specs.Prelude.{Option, Some, None}
 use Prim.Native.Nat.{ℕ, ◌+◌}
 use mathlib.Core.Path.{◌≡◌, refl, sym, subst}
 use mathlib.Core.Bool.{Bool, true, false}
@@ -6,13 +8,11 @@ use lib.Dec.{ltb, eqb}
 use Rattle.base_lists.proofs.Choices.{by_test, no_way}
 use Rattle.machine_state.specs.declared.State.{State}
 use Rattle.set_plan.specs.declared.Times.{Times}
-use Rattle.set_plan.specs.declared.Lookup.{Lookup}
 use Rattle.set_plan.specs.declared.Plan.{Plan}
 use Rattle.set_plan.specs.Answering.{is_polled}
 use Rattle.set_plan.specs.Find.{find_row}
 use Rattle.set_plan.specs.Profile.{sleeps}
 use Rattle.set_plan.specs.Rules.{plan_refusal}
-use Rattle.machine_node.specs.declared.Delay.{Delay}
 use Rattle.machine_node.specs.declared.Node.{Node}
 use Rattle.machine_node.specs.declared.Event.{Event}
 use Rattle.machine_node.specs.declared.Reply.{Reply}
@@ -29,7 +29,7 @@ Awake n = is_awake n.state n.delay ≡ true
 pub node_normal : (n : Node) → Awake n → n.state ≡ State.Normal
 node_normal n a = go n.state n.delay a
   where
-    go : (s : State) (d : Delay) → is_awake s d ≡ true → s ≡ State.Normal
+    go : (s : State) (d : Option ℕ) → is_awake s d ≡ true → s ≡ State.Normal
     go State.Normal d a = refl
     go State.Standby d a = no_way a
     go State.Sleep d a = no_way a
@@ -44,11 +44,11 @@ module _ (P : Bool → Type 0) where
   Clear true = P false
   Clear false = (error : Bool) → P error
 
-  tick_at : (t : Times) (clock : Bool) (n : Node) (state : State) (delay : Delay) → is_awake state delay ≡ true → Clear clock
+  tick_at : (t : Times) (clock : Bool) (n : Node) (state : State) (delay : Option ℕ) → is_awake state delay ≡ true → Clear clock
       → Stays (tick_step false t clock (split n state n.caller delay))
-  tick_at t true n State.Normal Delay.Off a p = (refl, p)
-  tick_at t false n State.Normal Delay.Off a p = by_test Stays (ltb (n.quiet + 1) t.quiet) (λ l. (refl, p _)) (λ l. (refl, p _))
-  tick_at t clock n State.Normal (Delay.On ticks) a p = no_way a
+  tick_at t true n State.Normal None a p = (refl, p)
+  tick_at t false n State.Normal None a p = by_test Stays (ltb (n.quiet + 1) t.quiet) (λ l. (refl, p _)) (λ l. (refl, p _))
+  tick_at t clock n State.Normal (Some ticks) a p = no_way a
   tick_at t clock n State.Standby delay a p = no_way a
   tick_at t clock n State.Sleep delay a p = no_way a
 
@@ -56,7 +56,7 @@ module _ (P : Bool → Type 0) where
   awake_tick_lem t clock n a p = tick_at t clock n n.state n.delay a p
 
   module _ (n : Node) (a : Awake n) (p : P n.error) where
-    pulse_at : (state : State) (delay : Delay) → is_awake state delay ≡ true → Stays (pulse_step (split n state n.caller delay))
+    pulse_at : (state : State) (delay : Option ℕ) → is_awake state delay ≡ true → Stays (pulse_step (split n state n.caller delay))
     pulse_at State.Normal delay a = (a, p)
     pulse_at State.Standby delay a = no_way a
     pulse_at State.Sleep delay a = no_way a
@@ -64,7 +64,7 @@ module _ (P : Bool → Type 0) where
     pub awake_pulse : Stays (pulse_step n)
     awake_pulse = pulse_at n.state n.delay a
 
-    wake_ask_at : (state : State) (delay : Delay) → is_awake state delay ≡ true → Stays (wake_ask_step false (split n state n.caller delay))
+    wake_ask_at : (state : State) (delay : Option ℕ) → is_awake state delay ≡ true → Stays (wake_ask_step false (split n state n.caller delay))
     wake_ask_at State.Normal delay a = (a, p)
     wake_ask_at State.Standby delay a = no_way a
     wake_ask_at State.Sleep delay a = no_way a
@@ -75,7 +75,7 @@ module _ (P : Bool → Type 0) where
     pub awake_permission : (permitted : Bool) → Stays (permission_step false permitted n)
     awake_permission permitted = by_test Stays permitted (λ y. (a, p)) (λ y. (a, p))
 
-    sleep_message_at : (state : State) (delay : Delay) → is_awake state delay ≡ true → Stays (sleep_message_step false (split n state n.caller delay))
+    sleep_message_at : (state : State) (delay : Option ℕ) → is_awake state delay ≡ true → Stays (sleep_message_step false (split n state n.caller delay))
     sleep_message_at State.Normal delay a = (a, p)
     sleep_message_at State.Standby delay a = no_way a
     sleep_message_at State.Sleep delay a = no_way a
@@ -86,10 +86,10 @@ module _ (P : Bool → Type 0) where
     abbrev Here : Node → Type 0
     Here m = Awake m × P m.error
 
-    pub awake_request : (me : ℕ) (row : Lookup) → Stays (request_step me row n)
+    pub awake_request : (me : ℕ) (row : Option Row) → Stays (request_step me row n)
     awake_request me row = request_keeps Here n (λ wake heard counts. (a, p)) me row
 
-    pub awake_send_ask : (me : ℕ) (polled : Bool) (row : Lookup) → Stays (send_ask_step me polled row n)
+    pub awake_send_ask : (me : ℕ) (polled : Bool) (row : Option Row) → Stays (send_ask_step me polled row n)
     awake_send_ask me polled row = send_ask_keeps Here n (λ wake heard counts. (a, p)) me polled row
 
 -- so every step leaves it so

@@ -1,4 +1,5 @@
 -- What a command of a node tells of it: when it calls, and what it sends.
+use Rattle.std.specs.Prelude.{Option, Some, None}
 use Prim.Native.Nat.{ℕ, suc, ◌+◌, ◌*◌, ◌≤◌, ◌<◌}
 use mathlib.Core.Path.{◌≡◌, refl, ap}
 use mathlib.Core.Bool.{Bool, true, false}
@@ -11,7 +12,6 @@ use Rattle.base_lists.proofs.Choices.{by_test}
 use Rattle.machine_state.specs.declared.State.{State}
 use Rattle.machine_state.proofs.CountTables.{count_at}
 use Rattle.set_plan.specs.declared.Times.{Times}
-use Rattle.set_plan.specs.declared.Lookup.{Lookup}
 use Rattle.set_plan.specs.declared.Row.{Row}
 use Rattle.machine_node.specs.declared.Command.{Command}
 use Rattle.machine_node.specs.declared.Node.{Node}
@@ -31,15 +31,15 @@ CommandMeans n Pulse Count Command.Pulse = Pulse
 CommandMeans n Pulse Count (Command.Send permission wake count) = (permission ≡ n.permission) × (wake ≡ n.wake) × Count count
 
 -- an answer is of the node's own row, with that row's count
-abbrev pub own_row : ℕ → Lookup → Node → ℕ → Type 0
-own_row me Lookup.Missing n count = ⊥
-own_row me (Lookup.Found row) n count = (row.publisher ≡ me) × (count ≡ get_or n.counts row.reqid 0)
+abbrev pub own_row : ℕ → Option Row → Node → ℕ → Type 0
+own_row me None n count = ⊥
+own_row me (Some row) n count = (row.publisher ≡ me) × (count ≡ get_or n.counts row.reqid 0)
 
 -- a node that sends its own row
-send_means : (n m : Node) (me : ℕ) (row : Lookup) → m.permission ≡ n.permission → m.wake ≡ n.wake → m.counts ≡ n.counts
+send_means : (n m : Node) (me : ℕ) (row : Option Row) → m.permission ≡ n.permission → m.wake ≡ n.wake → m.counts ≡ n.counts
     → OnSending (λ (r : Reply). CommandMeans n ⊥ (own_row me row n) r.command) me row m
-send_means n m me Lookup.Missing p w c = tt
-send_means n m me (Lookup.Found row) p w c = λ e. (p, w, (e, ap (λ (counts : List ℕ). get_or counts row.reqid 0) c))
+send_means n m me None p w c = tt
+send_means n m me (Some row) p w c = λ e. (p, w, (e, ap (λ (counts : List ℕ). get_or counts row.reqid 0) c))
 
 -- a caller that calls again shows no error, so its count is that of the ticks at least
 standby_means : (t : Times) (k : ℕ) (n : Node) (caller : Bool) → ErrorShows t (split n State.Standby caller n.delay)
@@ -69,14 +69,14 @@ tick_means sleeps t k false n State.Standby h o = standby_means t k n n.caller h
 tick_means sleeps t k true n State.Sleep h o = tt
 tick_means sleeps t k false n State.Sleep h o = tt
 
-pub request_means : (me : ℕ) (row : Lookup) (n : Node) → CommandMeans n ⊥ (own_row me row n) (request_step me row n).command
+pub request_means : (me : ℕ) (row : Option Row) (n : Node) → CommandMeans n ⊥ (own_row me row n) (request_step me row n).command
 request_means me row n =
     request_any (λ (r : Reply). CommandMeans n ⊥ (own_row me row n) r.command) n (λ number. tt) me row tt (send_means n (with_heard n) me row refl refl refl)
 
-pub send_ask_means : (me : ℕ) (polled : Bool) (row : Lookup) (n : Node) → CommandMeans n ⊥ (own_row me row n) (send_ask_step me polled row n).command
+pub send_ask_means : (me : ℕ) (polled : Bool) (row : Option Row) (n : Node) → CommandMeans n ⊥ (own_row me row n) (send_ask_step me polled row n).command
 send_ask_means me polled row n =
     send_ask_any (λ (r : Reply). CommandMeans n ⊥ (own_row me row n) r.command) n (λ number. tt) me polled row (send_means n n me row refl refl refl)
 
 -- the count of an answer lies in its range
-pub own_count : (t : Times) (me count : ℕ) (row : Row) (n : Node) → Fits t n → row.reqid < 128 → own_row me (Lookup.Found row) n count → count < 4
+pub own_count : (t : Times) (me count : ℕ) (row : Row) (n : Node) → Fits t n → row.reqid < 128 → own_row me (Some row) n count → count < 4
 own_count t me count row n f l own = omega (arith, own.1, count_at 4 n.counts row.reqid f.counts l)

@@ -1,4 +1,5 @@
 -- Where the error of a node shows in a run from power-on: less than its range allows.
+use Rattle.std.specs.Prelude.{Option, Some, None}
 use Prim.Native.Nat.{ℕ, ◌+◌, ◌*◌}
 use mathlib.Core.Path.{◌≡◌, refl}
 use mathlib.Core.Bool.{Bool, true, false, ◌&&◌}
@@ -8,7 +9,6 @@ use borrow.Author.Tests.{ltb-true}
 use Rattle.base_lists.proofs.Choices.{by_test, no_way}
 use Rattle.machine_state.specs.declared.State.{State}
 use Rattle.set_plan.specs.declared.Times.{Times}
-use Rattle.machine_node.specs.declared.Delay.{Delay}
 use Rattle.machine_node.specs.declared.Node.{Node}
 use Rattle.machine_node.specs.declared.Reply.{Reply}
 use Rattle.machine_node.specs.Changes.{with_wake}
@@ -34,16 +34,16 @@ module _ (t : Times) where
   abbrev Kept : Reply → Type 0
   Kept r = ErrorShows t r.node
 
-  normal_shows : (sleeps clock : Bool) (n : Node) (caller : Bool) (delay : Delay) → Kept (awake_tick sleeps t.quiet clock (split n State.Normal caller delay))
+  normal_shows : (sleeps clock : Bool) (n : Node) (caller : Bool) (delay : Option ℕ) → Kept (awake_tick sleeps t.quiet clock (split n State.Normal caller delay))
   normal_shows sleeps true n caller delay = λ e. no_way e
   normal_shows sleeps false n caller delay =
       by_test Kept (ltb (n.quiet + 1) t.quiet) (λ l e. tt) (λ l. by_test Kept (sleeps && n.permission) (λ y e. no_way e) (λ y e. tt))
 
-  pub tick_shows : (sleeps clock : Bool) (n : Node) (state : State) (caller : Bool) (delay : Delay)
+  pub tick_shows : (sleeps clock : Bool) (n : Node) (state : State) (caller : Bool) (delay : Option ℕ)
       → ErrorShows t (split n state caller delay) → Kept (tick_step sleeps t clock (split n state caller delay))
-  tick_shows sleeps clock n State.Normal caller Delay.Off h = normal_shows sleeps clock n caller Delay.Off
-  tick_shows sleeps clock n State.Normal caller (Delay.On ticks) h =
-      by_test Kept (ltb (ticks + 1) t.sleep) (λ l. normal_shows sleeps clock n caller (Delay.On (ticks + 1))) (λ l e. no_way e)
+  tick_shows sleeps clock n State.Normal caller None h = normal_shows sleeps clock n caller None
+  tick_shows sleeps clock n State.Normal caller (Some ticks) h =
+      by_test Kept (ltb (ticks + 1) t.sleep) (λ l. normal_shows sleeps clock n caller (Some (ticks + 1))) (λ l e. no_way e)
   tick_shows sleeps true n State.Standby caller delay h = λ e. no_way e
   tick_shows sleeps false n State.Standby true delay h =
       by_test Kept (ltb (n.standby + 1) (2 * t.recovery))

@@ -1,4 +1,6 @@
 -- From a state in range, under an accepted plan, every step gives a state in range.
+use Rattle.set_plan.specs.declared.Row.{Row}
+use Rattle.std.specs.Prelude.{Option, Some, None}
 use Prim.Native.Nat.{ℕ, ◌+◌, ◌*◌, ◌≤◌, ◌<◌}
 use mathlib.Core.Path.{◌≡◌, refl, sym}
 use mathlib.Core.Bool.{Bool, true, false, ◌&&◌, ◌||◌}
@@ -14,14 +16,12 @@ use Rattle.machine_state.specs.declared.State.{State}
 use Rattle.machine_state.specs.Counts.{counts_below}
 use Rattle.machine_state.proofs.CountTables.{counts_set}
 use Rattle.set_plan.specs.declared.Times.{Times}
-use Rattle.set_plan.specs.declared.Lookup.{Lookup}
 use Rattle.set_plan.specs.declared.Plan.{Plan}
 use Rattle.set_plan.specs.Profile.{sleeps}
 use Rattle.set_plan.specs.Rules.{plan_refusal}
 use Rattle.set_plan.specs.Answering.{is_polled}
 use Rattle.set_plan.specs.Find.{find_row}
 use Rattle.set_plan.proofs.Accepted.{accepted, TimesFit, times_fit}
-use Rattle.machine_node.specs.declared.Delay.{Delay}
 use Rattle.machine_node.specs.declared.Node.{Node}
 use Rattle.machine_node.specs.declared.Event.{Event}
 use Rattle.machine_node.specs.declared.Reply.{Reply}
@@ -107,11 +107,11 @@ module _ (t : Times) where
     awake_fits sleeps true n f = record { quiet = omega arith; delay = f.delay; standby = f.standby; counts = f.counts }
     awake_fits sleeps false n f = quiet_fits sleeps n f
 
-    normal_fits : (sleeps clock : Bool) (d : Delay) (n : Node) → Fits t n → Fits t (normal_by sleeps t clock d n).node
-    normal_fits sleeps clock Delay.Off n f = awake_fits sleeps clock n f
-    normal_fits sleeps clock (Delay.On ticks) n f =
+    normal_fits : (sleeps clock : Bool) (d : Option ℕ) (n : Node) → Fits t n → Fits t (normal_by sleeps t clock d n).node
+    normal_fits sleeps clock None n f = awake_fits sleeps clock n f
+    normal_fits sleeps clock (Some ticks) n f =
         by_test (λ (r : Reply). Fits t r.node) (ltb (ticks + 1) t.sleep)
-        (λ l. awake_fits sleeps clock (with_delay (Delay.On (ticks + 1)) n) (record { quiet = f.quiet; delay = l; standby = f.standby; counts = f.counts }))
+        (λ l. awake_fits sleeps clock (with_delay (Some (ticks + 1)) n) (record { quiet = f.quiet; delay = l; standby = f.standby; counts = f.counts }))
         (λ l. asleep_fits n.permission)
 
     -- the count of a node in Standby goes up
@@ -187,12 +187,12 @@ module _ (t : Times) where
     send_fits : (reqid : ℕ) (n : Node) → Fits t n → Fits t (send_step reqid n).node
     send_fits reqid n f = record { quiet = f.quiet; delay = f.delay; standby = f.standby; counts = sent_counts n.counts reqid f.counts }
 
-    pub request_fits : (me : ℕ) (row : Lookup) (n : Node) → Fits t n → Fits t (request_step me row n).node
+    pub request_fits : (me : ℕ) (row : Option Row) (n : Node) → Fits t n → Fits t (request_step me row n).node
     request_fits me row n f =
         request_any (λ (r : Reply). Fits t r.node) n (λ number. f) me row (heard_fits n f)
         (any_row (λ (r : Reply). Fits t r.node) me row (with_heard n) (λ reqid. send_fits reqid (with_heard n) (heard_fits n f)))
 
-    pub send_ask_fits : (me : ℕ) (polled : Bool) (row : Lookup) (n : Node) → Fits t n → Fits t (send_ask_step me polled row n).node
+    pub send_ask_fits : (me : ℕ) (polled : Bool) (row : Option Row) (n : Node) → Fits t n → Fits t (send_ask_step me polled row n).node
     send_ask_fits me polled row n f =
         send_ask_any (λ (r : Reply). Fits t r.node) n (λ number. f) me polled row (any_row (λ (r : Reply). Fits t r.node) me row n (λ reqid. send_fits reqid n f))
 

@@ -1,4 +1,6 @@
 -- A node in a run: what each step keeps of its permission, and of the ticks that the clock was on or off.
+use Rattle.set_plan.specs.declared.Row.{Row}
+use Rattle.std.specs.Prelude.{Option, Some, None}
 use Prim.Native.Nat.{ℕ, suc, ◌+◌, ◌*◌, ◌≤◌}
 use mathlib.Core.Path.{◌≡◌, refl}
 use mathlib.Core.Bool.{Bool, true, false}
@@ -6,9 +8,7 @@ use Rattle.base_lists.specs.Bounded.{if_else}
 use Rattle.base_lists.proofs.Choices.{no_way}
 use Rattle.machine_state.specs.declared.State.{State}
 use Rattle.set_plan.specs.declared.Times.{Times}
-use Rattle.set_plan.specs.declared.Lookup.{Lookup}
 use Rattle.set_plan.proofs.Accepted.{TimesFit}
-use Rattle.machine_node.specs.declared.Delay.{Delay}
 use Rattle.machine_node.specs.declared.Node.{Node}
 use Rattle.machine_node.specs.declared.Reply.{Reply}
 use Rattle.machine_node.specs.Changes.{power_on, with_wake, with_delay}
@@ -41,7 +41,7 @@ module _ (t : Times) where
     run_off_ends = record { permission = s.permission; fits = s.fits; shows = s.shows; lit = s.lit; dark = off_none t n }
 
     -- (c): after S + 2 ticks
-    pub run_on_long : t.sleep + 2 ≤ on → (n.state ≡ State.Normal) × (n.error ≡ false) × (n.delay ≡ Delay.Off)
+    pub run_on_long : t.sleep + 2 ≤ on → (n.state ≡ State.Normal) × (n.error ≡ false) × (n.delay ≡ None)
     run_on_long l = on_long t on n l s.fits.delay s.lit
 
     -- (b): after E, 2R and R + P ticks
@@ -112,14 +112,14 @@ module _ (t : Times) where
           (s.permission, s.shows, on_none t started, s.dark))
         where
           started : Node
-          started = with_delay (Delay.On 0) n
+          started = with_delay (Some 0) n
 
-      pub run_request : (me : ℕ) (row : Lookup) → InRun t permitted on off (request_step me row n).node
+      pub run_request : (me : ℕ) (row : Option Row) → InRun t permitted on off (request_step me row n).node
       run_request me row =
           whole on (request_step me row n).node (request_fits t a me row n s.fits)
           (request_keeps (Rest on) n (λ wake heard counts. (s.permission, s.shows, s.lit, s.dark)) me row)
 
-      pub run_send_ask : (me : ℕ) (polled : Bool) (row : Lookup) → InRun t permitted on off (send_ask_step me polled row n).node
+      pub run_send_ask : (me : ℕ) (polled : Bool) (row : Option Row) → InRun t permitted on off (send_ask_step me polled row n).node
       run_send_ask me polled row =
           whole on (send_ask_step me polled row n).node (send_ask_fits t a me polled row n s.fits)
           (send_ask_keeps (Rest on) n (λ wake heard counts. (s.permission, s.shows, s.lit, s.dark)) me polled row)

@@ -1,4 +1,5 @@
 -- A step of a node keeps the places of its sequence counts.
+use Rattle.std.specs.Prelude.{Option, Some, None}
 use Prim.Native.Nat.{ℕ, ◌+◌, ◌*◌}
 use mathlib.Core.Path.{◌≡◌, refl, ◌∙◌}
 use mathlib.Core.Bool.{Bool, true, false, ◌&&◌}
@@ -13,7 +14,6 @@ use Rattle.set_plan.specs.Profile.{sleeps}
 use Rattle.set_plan.specs.Rules.{plan_refusal}
 use Rattle.set_plan.specs.Answering.{is_polled}
 use Rattle.set_plan.specs.Find.{find_row}
-use Rattle.machine_node.specs.declared.Delay.{Delay}
 use Rattle.machine_node.specs.declared.Node.{Node}
 use Rattle.machine_node.specs.declared.Event.{Event}
 use Rattle.machine_node.specs.declared.Reply.{Reply}
@@ -31,10 +31,10 @@ awake_placed : (sleeps : Bool) (limit : ℕ) (clock : Bool) (n : Node) → lengt
 awake_placed sleeps limit true n h = h
 awake_placed sleeps limit false n h = by_test Placed (ltb (n.quiet + 1) limit) (λ l. h) (λ l. by_test Placed (sleeps && n.permission) (λ y. refl) (λ y. h))
 
-normal_placed : (sleeps : Bool) (t : Times) (clock : Bool) (delay : Delay) (n : Node) → length n.counts ≡ reqids → Placed (normal_by sleeps t clock delay n)
-normal_placed sleeps t clock Delay.Off n h = awake_placed sleeps t.quiet clock n h
-normal_placed sleeps t clock (Delay.On ticks) n h =
-    by_test Placed (ltb (ticks + 1) t.sleep) (λ l. awake_placed sleeps t.quiet clock (with_delay (Delay.On (ticks + 1)) n) h) (λ l. refl)
+normal_placed : (sleeps : Bool) (t : Times) (clock : Bool) (delay : Option ℕ) (n : Node) → length n.counts ≡ reqids → Placed (normal_by sleeps t clock delay n)
+normal_placed sleeps t clock None n h = awake_placed sleeps t.quiet clock n h
+normal_placed sleeps t clock (Some ticks) n h =
+    by_test Placed (ltb (ticks + 1) t.sleep) (λ l. awake_placed sleeps t.quiet clock (with_delay (Some (ticks + 1)) n) h) (λ l. refl)
 
 tick_placed : (sleeps : Bool) (t : Times) (clock : Bool) (state : State) (n : Node) → length n.counts ≡ reqids → Placed (tick_by sleeps t clock state n)
 tick_placed sleeps t clock State.Normal n h = normal_placed sleeps t clock n.delay n h

@@ -1,4 +1,5 @@
 -- A node under a clock that stays on: Normal without error once it was on for S + 2 ticks.
+use Rattle.std.specs.Prelude.{Option, Some, None}
 use Prim.Native.Nat.{ℕ, zero, suc, ◌+◌, ◌≤◌}
 use mathlib.Core.Path.{◌≡◌, refl, sym, ◌∙◌}
 use mathlib.Core.Bool.{Bool, true, false, ◌&&◌}
@@ -9,7 +10,6 @@ use Rattle.base_lists.proofs.AllAny.{and_r}
 use Rattle.base_lists.proofs.Choices.{by_test, no_way}
 use Rattle.machine_state.specs.declared.State.{State}
 use Rattle.set_plan.specs.declared.Times.{Times}
-use Rattle.machine_node.specs.declared.Delay.{Delay}
 use Rattle.machine_node.specs.declared.Node.{Node}
 use Rattle.machine_node.specs.declared.Reply.{Reply}
 use Rattle.machine_node.specs.Range.{delay_right}
@@ -19,9 +19,9 @@ use Rattle.machine_node.proofs.Cases.{split}
 use Rattle.machine_node.proofs.ErrorShows.{ErrorShows, unshown}
 
 -- for how many ticks the clock can have been on: a delay runs to S, then two ticks lead from Sleep to Normal
-abbrev pub on_at : Times → ℕ → State → Delay → Type 0
-on_at t k State.Normal Delay.Off = Unit {0}
-on_at t k State.Normal (Delay.On ticks) = k ≤ ticks
+abbrev pub on_at : Times → ℕ → State → Option ℕ → Type 0
+on_at t k State.Normal None = Unit {0}
+on_at t k State.Normal (Some ticks) = k ≤ ticks
 on_at t k State.Standby delay = k ≤ t.sleep + 1
 on_at t k State.Sleep delay = k ≤ t.sleep
 
@@ -33,9 +33,9 @@ module _ (t : Times) where
   pub on_none : (n : Node) → ClockOn t 0 n
   on_none n = (λ l. absurd (omega arith), go n.state n.delay)
     where
-      go : (state : State) (delay : Delay) → on_at t 0 state delay
-      go State.Normal Delay.Off = tt
-      go State.Normal (Delay.On ticks) = omega arith
+      go : (state : State) (delay : Option ℕ) → on_at t 0 state delay
+      go State.Normal None = tt
+      go State.Normal (Some ticks) = omega arith
       go State.Standby delay = omega arith
       go State.Sleep delay = omega arith
 
@@ -43,10 +43,10 @@ module _ (t : Times) where
     abbrev Kept : Reply → Type 0
     Kept r = ClockOn t k r.node
 
-    pub on_tick : (sleeps : Bool) (n : Node) (state : State) (delay : Delay) → delay_right t.sleep delay ≡ true → ErrorShows t (split n state n.caller delay)
+    pub on_tick : (sleeps : Bool) (n : Node) (state : State) (delay : Option ℕ) → delay_right t.sleep delay ≡ true → ErrorShows t (split n state n.caller delay)
         → ClockOn t k (split n state n.caller delay) → ClockOn t (suc k) (tick_step sleeps t true (split n state n.caller delay)).node
-    on_tick sleeps n State.Normal Delay.Off d h o = (λ l. refl, tt)
-    on_tick sleeps n State.Normal (Delay.On ticks) d h o =
+    on_tick sleeps n State.Normal None d h o = (λ l. refl, tt)
+    on_tick sleeps n State.Normal (Some ticks) d h o =
         by_test (λ (r : Reply). ClockOn t (suc k) r.node) (ltb (ticks + 1) t.sleep)
         (λ l. (λ l. refl, omega arith))
         (λ l. (λ l. refl, omega (arith, ltb-true ticks t.sleep d)))
@@ -80,11 +80,11 @@ module _ (t : Times) where
         by_test Kept permitted (λ y. by_test Kept (sleeps && n.error) (λ x. (λ l. refl, unlit n o.0 (and_r sleeps n.error x))) (λ x. o)) (λ y. o)
 
     pub on_long : (n : Node) → t.sleep + 2 ≤ k → delay_right t.sleep n.delay ≡ true → ClockOn t k n
-        → (n.state ≡ State.Normal) × (n.error ≡ false) × (n.delay ≡ Delay.Off)
+        → (n.state ≡ State.Normal) × (n.error ≡ false) × (n.delay ≡ None)
     on_long n l d o = let at = go n.state n.delay d o.1 in (at.0, o.0 (omega arith), at.1)
       where
-        go : (state : State) (delay : Delay) → delay_right t.sleep delay ≡ true → on_at t k state delay → (state ≡ State.Normal) × (delay ≡ Delay.Off)
-        go State.Normal Delay.Off d o = (refl, refl)
-        go State.Normal (Delay.On ticks) d o = absurd (omega (arith, ltb-true ticks t.sleep d))
+        go : (state : State) (delay : Option ℕ) → delay_right t.sleep delay ≡ true → on_at t k state delay → (state ≡ State.Normal) × (delay ≡ None)
+        go State.Normal None d o = (refl, refl)
+        go State.Normal (Some ticks) d o = absurd (omega (arith, ltb-true ticks t.sleep d))
         go State.Standby delay d o = absurd (omega arith)
         go State.Sleep delay d o = absurd (omega arith)

@@ -1,4 +1,5 @@
 -- A node under a clock that stays off, with no ask to wake: asleep or in error once it was off for E, 2R and R + P ticks.
+use Rattle.std.specs.Prelude.{Option, Some, None}
 use Prim.Native.Nat.{ℕ, suc, ◌+◌, ◌*◌, ◌≤◌, ◌<◌}
 use mathlib.Core.Path.{◌≡◌, refl, sym}
 use mathlib.Core.Bool.{Bool, true, false, ◌&&◌}
@@ -8,7 +9,6 @@ use borrow.Author.Tests.{ltb-true}
 use Rattle.base_lists.proofs.Choices.{by_test, no_way}
 use Rattle.machine_state.specs.declared.State.{State}
 use Rattle.set_plan.specs.declared.Times.{Times}
-use Rattle.machine_node.specs.declared.Delay.{Delay}
 use Rattle.machine_node.specs.declared.Node.{Node}
 use Rattle.machine_node.specs.declared.Reply.{Reply}
 use Rattle.machine_node.specs.Range.{standby_right}
@@ -41,17 +41,17 @@ module _ (t : Times) where
     abbrev Later : Reply → Type 0
     Later r = ClockOff t (suc k) r.node
 
-    quiet_off : (sleeps : Bool) (n : Node) (caller : Bool) (delay : Delay) → ClockOff t k (split n State.Normal caller delay) → Later (quiet_tick sleeps t.quiet (split n State.Normal caller delay))
+    quiet_off : (sleeps : Bool) (n : Node) (caller : Bool) (delay : Option ℕ) → ClockOff t k (split n State.Normal caller delay) → Later (quiet_tick sleeps t.quiet (split n State.Normal caller delay))
     quiet_off sleeps n caller delay o =
         by_test Later (ltb (n.quiet + 1) t.quiet)
         (λ l e. let g = (o e).0 in (omega arith, λ m. ltb-true (n.quiet + 1) t.quiet l))
         (λ l. by_test Later (sleeps && n.permission) (λ y. tt) (λ y e. no_way (sym e)))
 
-    pub off_tick : (sleeps : Bool) (n : Node) (state : State) (caller : Bool) (delay : Delay)
+    pub off_tick : (sleeps : Bool) (n : Node) (state : State) (caller : Bool) (delay : Option ℕ)
         → ClockOff t k (split n state caller delay) → Later (tick_step sleeps t false (split n state caller delay))
-    off_tick sleeps n State.Normal caller Delay.Off o = quiet_off sleeps n caller Delay.Off o
-    off_tick sleeps n State.Normal caller (Delay.On ticks) o =
-        by_test Later (ltb (ticks + 1) t.sleep) (λ l. quiet_off sleeps n caller (Delay.On (ticks + 1)) o) (λ l. tt)
+    off_tick sleeps n State.Normal caller None o = quiet_off sleeps n caller None o
+    off_tick sleeps n State.Normal caller (Some ticks) o =
+        by_test Later (ltb (ticks + 1) t.sleep) (λ l. quiet_off sleeps n caller (Some (ticks + 1)) o) (λ l. tt)
     off_tick sleeps n State.Standby true delay o =
         by_test Later (ltb (n.standby + 1) (2 * t.recovery))
         (λ l. by_test Later (eqb (n.standby + 1) t.recovery) (λ q. up l) (λ q. up l))

@@ -1,10 +1,9 @@
 -- A node's power-on, the entering of its states, single changes, and replies.
-use Rattle.std.specs.Prelude.{ℕ, ◌+◌, ◌-◌, Bool, true, false, ltb, get_or, set, replicate}
+use Rattle.std.specs.Prelude.{ℕ, ◌+◌, ◌-◌, Bool, true, false, ltb, get_or, set, replicate, Option, None}
 use Rattle.base_lists.specs.Bounded.{if_else}
 use Rattle.machine_state.specs.declared.State.{State}
 use Rattle.machine_state.specs.State.{start_state}
 use Rattle.set_plan.specs.Limits.{reqids, seq_counts}
-use Rattle.machine_node.specs.declared.Delay.{Delay}
 use Rattle.machine_node.specs.declared.Command.{Command}
 use Rattle.machine_node.specs.declared.Node.{Node}
 use Rattle.machine_node.specs.declared.Reply.{Reply}
@@ -20,7 +19,7 @@ power_on sleeps =
       heard = false;
       caller = false;
       quiet = 0;
-      delay = Delay.Off;
+      delay = None;
       standby = 0;
       counts = replicate reqids 0;
     }
@@ -36,7 +35,7 @@ to_normal n =
       heard = false;
       caller = false;
       quiet = 0;
-      delay = Delay.Off;
+      delay = None;
       standby = 0;
       counts = replicate reqids 0;
     }
@@ -125,7 +124,7 @@ with_quiet ticks error n =
       counts = n.counts;
     }
 
-abbrev pub with_delay : Delay → Node → Node
+abbrev pub with_delay : Option ℕ → Node → Node
 with_delay delay n =
     record {
       state = n.state;

@@ -1,9 +1,9 @@
 -- A node's step.
-use Rattle.std.specs.Prelude.{ℕ, Bool, true, ltb, eqb}
+use Rattle.set_plan.specs.declared.Row.{Row}
+use Rattle.std.specs.Prelude.{ℕ, Bool, true, ltb, eqb, Option, Some, None}
 use Rattle.base_lists.specs.Bounded.{if_else}
 use Rattle.set_plan.specs.declared.Times.{Times}
 use Rattle.set_plan.specs.declared.Plan.{Plan}
-use Rattle.set_plan.specs.declared.Lookup.{Lookup}
 use Rattle.set_plan.specs.Limits.{reqids}
 use Rattle.set_plan.specs.Profile.{sleeps}
 use Rattle.set_plan.specs.Rules.{plan_refusal}
@@ -28,19 +28,29 @@ event_right Event.SleepMessage = true
 event_right (Event.Request reqid) = ltb reqid reqids
 event_right (Event.SendAsk reqid) = ltb reqid reqids
 
--- the row that an event asks a plan for
-abbrev pub row_asked : Plan → Event → Lookup
-row_asked p (Event.Tick clock) = Lookup.Missing
-row_asked p Event.Pulse = Lookup.Missing
-row_asked p Event.WakeAsk = Lookup.Missing
-row_asked p (Event.Permission permitted) = Lookup.Missing
-row_asked p Event.SleepMessage = Lookup.Missing
+-- the ReqId whose row an event asks a plan for
+abbrev pub reqid_asked : Event → Option ℕ
+reqid_asked (Event.Tick clock) = None
+reqid_asked Event.Pulse = None
+reqid_asked Event.WakeAsk = None
+reqid_asked (Event.Permission permitted) = None
+reqid_asked Event.SleepMessage = None
+reqid_asked (Event.Request reqid) = Some reqid
+reqid_asked (Event.SendAsk reqid) = Some reqid
+
+-- that row
+abbrev pub row_asked : Plan → Event → Option Row
+row_asked p (Event.Tick clock) = None
+row_asked p Event.Pulse = None
+row_asked p Event.WakeAsk = None
+row_asked p (Event.Permission permitted) = None
+row_asked p Event.SleepMessage = None
 row_asked p (Event.Request reqid) = find_row p reqid
 row_asked p (Event.SendAsk reqid) = find_row p reqid
 
 -- what each event does, 16 and the later numbers included, by what it needs of a plan: whether its machines sleep, the times, whether the
 -- node is polled and the row asked for
-abbrev pub act_with : Bool → Times → ℕ → Bool → Lookup → Node → Event → Reply
+abbrev pub act_with : Bool → Times → ℕ → Bool → Option Row → Node → Event → Reply
 act_with sleeps t me polled row n (Event.Tick clock) = tick_step sleeps t clock n
 act_with sleeps t me polled row n Event.Pulse = pulse_step n
 act_with sleeps t me polled row n Event.WakeAsk = wake_ask_step sleeps n
@@ -50,7 +60,7 @@ act_with sleeps t me polled row n (Event.Request reqid) = request_step me row n
 act_with sleeps t me polled row n (Event.SendAsk reqid) = send_ask_step me polled row n
 
 -- "then 11, 15, 16, then the rest by number", where the plan is judged; 11 is a "state record or node number out of range"
-abbrev pub step_with : Bool → ℕ → Times → ℕ → Bool → Lookup → Node → Event → Reply
+abbrev pub step_with : Bool → ℕ → Times → ℕ → Bool → Option Row → Node → Event → Reply
 step_with sleeps nodecount t me polled row n e =
     if_else (ltb me nodecount)
     (if_else (in_range sleeps t n)

@@ -1,9 +1,8 @@
 -- A node's ticks.
-use Rattle.std.specs.Prelude.{ℕ, ◌+◌, ◌*◌, Bool, true, false, ◌&&◌, ltb, eqb}
+use Rattle.std.specs.Prelude.{ℕ, ◌+◌, ◌*◌, Bool, true, false, ◌&&◌, ltb, eqb, Option, Some, None}
 use Rattle.base_lists.specs.Bounded.{if_else}
 use Rattle.machine_state.specs.declared.State.{State}
 use Rattle.set_plan.specs.declared.Times.{Times}
-use Rattle.machine_node.specs.declared.Delay.{Delay}
 use Rattle.machine_node.specs.declared.Node.{Node}
 use Rattle.machine_node.specs.declared.Reply.{Reply}
 use Rattle.machine_node.specs.Changes.{to_sleep, to_normal, to_standby, with_quiet, with_delay, with_standby, silent, calls}
@@ -20,10 +19,10 @@ awake_tick sleeps limit true n = silent (with_quiet 0 false n)
 awake_tick sleeps limit false n = quiet_tick sleeps limit n
 
 -- Normal: "a running delay reaching S goes Sleep; otherwise .."; "a sleep delay still runs" with clock, and "With clock too, a delay reaching S goes Sleep in that tick"
-abbrev pub normal_by : Bool → Times → Bool → Delay → Node → Reply
-normal_by sleeps t clock Delay.Off n = awake_tick sleeps t.quiet clock n
-normal_by sleeps t clock (Delay.On ticks) n =
-    if_else (ltb (ticks + 1) t.sleep) (awake_tick sleeps t.quiet clock (with_delay (Delay.On (ticks + 1)) n)) (silent (to_sleep n))
+abbrev pub normal_by : Bool → Times → Bool → Option ℕ → Node → Reply
+normal_by sleeps t clock None n = awake_tick sleeps t.quiet clock n
+normal_by sleeps t clock (Some ticks) n =
+    if_else (ltb (ticks + 1) t.sleep) (awake_tick sleeps t.quiet clock (with_delay (Some (ticks + 1)) n)) (silent (to_sleep n))
 
 abbrev pub normal_tick : Bool → Times → Bool → Node → Reply
 normal_tick sleeps t clock n = normal_by sleeps t clock n.delay n

@@ -1,8 +1,7 @@
 -- A node's waking and its permission.
-use Rattle.std.specs.Prelude.{Bool, true, false, ◌&&◌}
+use Rattle.std.specs.Prelude.{Bool, true, false, ◌&&◌, None}
 use Rattle.base_lists.specs.Bounded.{if_else}
 use Rattle.machine_state.specs.declared.State.{State}
-use Rattle.machine_node.specs.declared.Delay.{Delay}
 use Rattle.machine_node.specs.declared.Node.{Node}
 use Rattle.machine_node.specs.declared.Reply.{Reply}
 use Rattle.machine_node.specs.Changes.{to_sleep, to_standby, with_permission, with_wake, with_quiet, with_delay, silent, calls}
@@ -18,7 +17,7 @@ pulse_step n = pulse_by n.state n
 
 -- W-204: from Normal "to Standby as the caller, count and quiet count 0, error and sleep delay off, with a pulse"
 abbrev pub call_anew : Node → Reply
-call_anew n = calls (to_standby (with_delay Delay.Off (with_quiet 0 false n)) true)
+call_anew n = calls (to_standby (with_delay None (with_quiet 0 false n)) true)
 
 -- "Sleep, or Standby not caller: now Standby as caller, count 0, command a pulse. Else nothing more", but by W-204 "in Normal while the error shows", which
 -- "does not apply" where machines never sleep (W-206)

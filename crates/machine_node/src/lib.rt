@@ -2,23 +2,18 @@
 #![tactic(auto)]
 
 ghost use Rattle.std.specs.Prelude.{◌≡◌};
+ghost use Rattle.base_refusals.specs.Numbers.{number};
 ghost use Rattle.machine_node.specs.Changes.{power_on, to_sleep, to_normal, to_standby, silent, calls, refuse};
-ghost use Rattle.machine_node.specs.Step.{event_right, row_asked, act_with, step_with, step_under, node_step};
+ghost use Rattle.machine_node.specs.Step.{event_right, reqid_asked, row_asked, act_with, step_with, step_under, node_step};
 
+use base_refusals::Refusal;
 use machine_state::{State, start_state};
-use set_plan::{Lookup, Plan, Row, Times, plan_refusal};
+use set_plan::{Plan, Row, Times, judge};
 
 mod range;
 mod sending;
 mod ticks;
 mod waking;
-
-// The sleep delay that a sleep message starts.
-#[derive(Clone, Copy)]
-pub enum Delay {
-    Off,
-    On(u16),
-}
 
 #[derive(Clone, Copy)]
 pub enum Command {
@@ -64,13 +59,15 @@ pub struct Node {
     pub caller: bool,
     // ticks without clock in Normal
     pub quiet: u16,
-    pub delay: Delay,
+    // ticks of the sleep delay that a sleep message starts, where one runs
+    pub delay: Option<u16>,
     // ticks in Standby
     pub standby: u32,
     // a sequence count per ReqId
     pub counts: [u8; Row::REQIDS],
 }
 
+// What a step gives. No Result: a refused step hands back the node too ("returns the state as given and no command").
 #[derive(Clone, Copy)]
 pub struct Reply {
     pub node: Node,
@@ -92,19 +89,17 @@ fn calls(node: Node) -> Reply
     ensures { result ≡ calls node }
 {
     Reply {
-        node,
         command: Command::Pulse,
-        refusal: 0,
+        ..silent(node)
     }
 }
 
-fn refuse(node: Node, refusal: u8) -> Reply
-    ensures { result ≡ refuse node refusal }
+fn refuse(node: Node, refusal: Refusal) -> Reply
+    ensures { result ≡ refuse node (number refusal) }
 {
     Reply {
-        node,
-        command: Command::Nothing,
-        refusal,
+        refusal: refusal.number(),
+        ..silent(node)
     }
 }
 
@@ -112,29 +107,28 @@ fn is_right(event: Event) -> bool
     ensures { result ≡ event_right event }
 {
     match event {
-        Event::Tick(_) => true,
-        Event::Pulse => true,
-        Event::WakeAsk => true,
-        Event::Permission(_) => true,
-        Event::SleepMessage => true,
-        Event::Request(reqid) => (reqid as usize) < Row::REQIDS,
-        Event::SendAsk(reqid) => (reqid as usize) < Row::REQIDS,
+        Event::Request(reqid) | Event::SendAsk(reqid) => (reqid as usize) < Row::REQIDS,
+        _ => true,
+    }
+}
+
+impl Event {
+    // The ReqId whose row an event asks a plan for.
+    pub fn reqid(self) -> Option<u8>
+        ensures { result ≡ reqid_asked self }
+    {
+        match self {
+            Event::Request(reqid) | Event::SendAsk(reqid) => Some(reqid),
+            _ => None,
+        }
     }
 }
 
 // The row that an event asks a plan for.
-fn row_asked(plan: Plan, event: Event) -> Lookup
+fn row_asked(plan: Plan, event: Event) -> Option<Row>
     ensures { result ≡ row_asked plan event }
 {
-    match event {
-        Event::Tick(_) => Lookup::Missing,
-        Event::Pulse => Lookup::Missing,
-        Event::WakeAsk => Lookup::Missing,
-        Event::Permission(_) => Lookup::Missing,
-        Event::SleepMessage => Lookup::Missing,
-        Event::Request(reqid) => set_plan::find_row(plan, reqid),
-        Event::SendAsk(reqid) => set_plan::find_row(plan, reqid),
-    }
+    set_plan::find_row(plan, event.reqid()?)
 }
 
 impl Node {
@@ -152,7 +146,7 @@ impl Node {
             heard: false,
             caller: false,
             quiet: 0,
-            delay: Delay::Off,
+            delay: None,
             standby: 0,
             counts: [0; Row::REQIDS],
         }
@@ -176,7 +170,7 @@ impl Node {
             heard: false,
             caller: false,
             quiet: 0,
-            delay: Delay::Off,
+            delay: None,
             standby: 0,
             counts: [0; Row::REQIDS],
             ..self
@@ -201,7 +195,7 @@ impl Node {
         times: Times,
         me: u8,
         polled: bool,
-        row: Lookup,
+        row: Option<Row>,
         event: Event,
     ) -> Reply
         ensures { result ≡ act_with sleeps times me polled row self event }
@@ -225,23 +219,17 @@ impl Node {
         times: Times,
         me: u8,
         polled: bool,
-        row: Lookup,
+        row: Option<Row>,
         event: Event,
     ) -> Reply
         ensures { result ≡ step_with sleeps nodecount times me polled row self event }
     {
-        if me < nodecount {
-            if self.in_range(sleeps, times) {
-                if is_right(event) {
-                    self.act_with(sleeps, times, me, polled, row, event)
-                } else {
-                    refuse(self, 15)
-                }
-            } else {
-                refuse(self, 11)
-            }
+        if nodecount <= me || !self.in_range(sleeps, times) {
+            refuse(self, Refusal::NoState)
+        } else if is_right(event) {
+            self.act_with(sleeps, times, me, polled, row, event)
         } else {
-            refuse(self, 11)
+            refuse(self, Refusal::NoEvent)
         }
     }
 
@@ -259,11 +247,9 @@ impl Node {
     pub fn step(self, plan: Plan, me: u8, event: Event) -> Reply
         ensures { result ≡ node_step plan me self event }
     {
-        let refusal = plan_refusal(plan);
-        if refusal == 0 {
-            self.step_under(plan, me, event)
-        } else {
-            refuse(self, refusal)
+        match judge(plan) {
+            Ok(()) => self.step_under(plan, me, event),
+            Err(refusal) => refuse(self, refusal),
         }
     }
 }

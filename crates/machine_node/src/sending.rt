@@ -3,9 +3,10 @@ ghost use Rattle.std.specs.Prelude.{◌≡◌};
 ghost use Rattle.machine_node.specs.Changes.{next_count};
 ghost use Rattle.machine_node.specs.Sending.{sleep_message_step, send_step, request_row, request_step, send_own, send_ask_row, send_ask_step};
 
-use crate::{Command, Delay, Node, Reply, refuse, silent};
-use machine_state::{State, count_of, with_count};
-use set_plan::Lookup;
+use crate::{Command, Node, Reply, refuse, silent};
+use base_refusals::Refusal;
+use machine_state::{count_of, is_normal, with_count};
+use set_plan::Row;
 
 fn next_count(count: u8) -> u8
     ensures { result ≡ next_count count }
@@ -21,20 +22,15 @@ impl Node {
     pub fn sleep_message(self, sleeps: bool) -> Reply
         ensures { result ≡ sleep_message_step sleeps self }
     {
-        let state = self.state;
-        match state {
-            State::Normal => {
-                if sleeps {
-                    silent(Node {
-                        delay: Delay::On(0),
-                        ..self
-                    })
-                } else {
-                    refuse(self, 25)
-                }
-            }
-            State::Standby => refuse(self, 16),
-            State::Sleep => refuse(self, 16),
+        if !is_normal(self.state) {
+            refuse(self, Refusal::NeedsNormal)
+        } else if !sleeps {
+            refuse(self, Refusal::NeverSleeps)
+        } else {
+            silent(Node {
+                delay: Some(0),
+                ..self
+            })
         }
     }
 
@@ -42,9 +38,8 @@ impl Node {
     fn send(self, reqid: u8) -> Reply
         ensures { result ≡ send_step reqid self }
     {
-        let old = self.counts;
-        let count = count_of(old, reqid);
-        let counts = with_count(old, reqid, next_count(count));
+        let count = count_of(self.counts, reqid);
+        let counts = with_count(self.counts, reqid, next_count(count));
         let command = Command::Send {
             permission: self.permission,
             wake: self.wake,
@@ -61,12 +56,12 @@ impl Node {
         }
     }
 
-    fn request_row(mut self, me: u8, row: Lookup) -> Reply
+    fn request_row(mut self, me: u8, row: Option<Row>) -> Reply
         ensures { result ≡ request_row me row self }
     {
         match row {
-            Lookup::Missing => refuse(self, 12),
-            Lookup::Found(found) => {
+            None => refuse(self, Refusal::NoReqId),
+            Some(found) => {
                 self.heard = true;
                 if found.publisher == me {
                     self.send(found.reqid)
@@ -78,55 +73,49 @@ impl Node {
     }
 
     // The master's request of a ReqId, with what the plan has for it.
-    pub fn request(self, me: u8, row: Lookup) -> Reply
+    pub fn request(self, me: u8, row: Option<Row>) -> Reply
         ensures { result ≡ request_step me row self }
     {
-        let state = self.state;
-        match state {
-            State::Normal => self.request_row(me, row),
-            State::Standby => refuse(self, 16),
-            State::Sleep => refuse(self, 16),
+        if is_normal(self.state) {
+            self.request_row(me, row)
+        } else {
+            refuse(self, Refusal::NeedsNormal)
         }
     }
 
     fn send_own(self, polled: bool, reqid: u8) -> Reply
         ensures { result ≡ send_own polled reqid self }
     {
-        if polled {
-            if self.heard {
-                self.send(reqid)
-            } else {
-                refuse(self, 21)
-            }
+        if polled & !self.heard {
+            refuse(self, Refusal::NotAsked)
         } else {
             self.send(reqid)
         }
     }
 
-    fn send_ask_row(self, me: u8, polled: bool, row: Lookup) -> Reply
+    fn send_ask_row(self, me: u8, polled: bool, row: Option<Row>) -> Reply
         ensures { result ≡ send_ask_row me polled row self }
     {
         match row {
-            Lookup::Missing => refuse(self, 12),
-            Lookup::Found(found) => {
+            None => refuse(self, Refusal::NoReqId),
+            Some(found) => {
                 if found.publisher == me {
                     self.send_own(polled, found.reqid)
                 } else {
-                    refuse(self, 12)
+                    refuse(self, Refusal::NoReqId)
                 }
             }
         }
     }
 
     // The application's ask to send a ReqId, with what the plan has for it.
-    pub fn send_ask(self, me: u8, polled: bool, row: Lookup) -> Reply
+    pub fn send_ask(self, me: u8, polled: bool, row: Option<Row>) -> Reply
         ensures { result ≡ send_ask_step me polled row self }
     {
-        let state = self.state;
-        match state {
-            State::Normal => self.send_ask_row(me, polled, row),
-            State::Standby => refuse(self, 16),
-            State::Sleep => refuse(self, 16),
+        if is_normal(self.state) {
+            self.send_ask_row(me, polled, row)
+        } else {
+            refuse(self, Refusal::NeedsNormal)
         }
     }
 }

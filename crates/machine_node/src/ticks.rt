@@ -2,7 +2,7 @@
 ghost use Rattle.std.specs.Prelude.{◌≡◌};
 ghost use Rattle.machine_node.specs.Ticks.{quiet_tick, awake_tick, normal_tick, caller_tick, listener_tick, standby_tick, tick_step};
 
-use crate::{Delay, Node, Reply, calls, silent};
+use crate::{Node, Reply, calls, silent};
 use machine_state::State;
 use set_plan::Times;
 
@@ -14,14 +14,12 @@ impl Node {
         if (quiet as u32) + 1 < (limit as u32) {
             self.quiet = quiet + 1;
             silent(self)
+        } else if sleeps & self.permission {
+            silent(self.to_sleep())
         } else {
-            if sleeps & self.permission {
-                silent(self.to_sleep())
-            } else {
-                self.quiet = limit;
-                self.error = true;
-                silent(self)
-            }
+            self.quiet = limit;
+            self.error = true;
+            silent(self)
         }
     }
 
@@ -42,11 +40,11 @@ impl Node {
     {
         let delay = self.delay;
         match delay {
-            Delay::Off => self.awake_tick(sleeps, times.quiet, clock),
-            Delay::On(ticks) => {
+            None => self.awake_tick(sleeps, times.quiet, clock),
+            Some(ticks) => {
                 if (ticks as u32) + 1 < (times.sleep as u32) {
                     let later = Node {
-                        delay: Delay::On(ticks + 1),
+                        delay: Some(ticks + 1),
                         ..self
                     };
                     later.awake_tick(sleeps, times.quiet, clock)
@@ -69,14 +67,12 @@ impl Node {
             } else {
                 silent(self)
             }
+        } else if self.permission {
+            silent(self.to_sleep())
         } else {
-            if self.permission {
-                silent(self.to_sleep())
-            } else {
-                self.standby = last;
-                self.error = true;
-                silent(self)
-            }
+            self.standby = last;
+            self.error = true;
+            silent(self)
         }
     }
 
@@ -105,23 +101,12 @@ impl Node {
     pub fn tick(self, sleeps: bool, times: Times, clock: bool) -> Reply
         ensures { result ≡ tick_step sleeps times clock self }
     {
-        let state = self.state;
-        match state {
-            State::Normal => self.normal_tick(sleeps, times, clock),
-            State::Standby => {
-                if clock {
-                    silent(self.to_normal())
-                } else {
-                    self.standby_tick(times)
-                }
-            }
-            State::Sleep => {
-                if clock {
-                    silent(self.to_standby(false))
-                } else {
-                    silent(self)
-                }
-            }
+        match (self.state, clock) {
+            (State::Normal, _) => self.normal_tick(sleeps, times, clock),
+            (State::Standby, true) => silent(self.to_normal()),
+            (State::Standby, false) => self.standby_tick(times),
+            (State::Sleep, true) => silent(self.to_standby(false)),
+            (State::Sleep, false) => silent(self),
         }
     }
 }

@@ -12,7 +12,7 @@ use Rattle.base_lists.proofs.Choices.{by_test, no_way}
 use Rattle.base_bytes.specs.Bytes.{byte, number}
 use Rattle.set_plan.specs.Rules.{between}
 use Rattle.machine_node_configuration.specs.declared.Identity.{Identity}
-use Rattle.machine_node_configuration.specs.declared.Reply.{Reply}
+use Rattle.machine_node_configuration.specs.Responses.{Reply}
 use Rattle.machine_node_configuration.specs.Requests.{assign_node_address, node_product_identification, node_serial_number_identification, is_assign, new_address, is_read, wrong_length, is_known, request_refusal, is_for, takes_assign}
 use Rattle.machine_node_configuration.specs.Responses.{response_to, address_after, configure_refusal, configured, responded}
 

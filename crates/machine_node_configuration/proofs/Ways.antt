@@ -1,16 +1,16 @@
 -- The ways a request can go: refused as it stands, its response too long for the buffer, or done.
-use Prim.Native.Nat.{ℕ, ◌+◌, ◌-◌, ◌≤◌, ◌<◌}
+use Prim.Native.Nat.{ℕ, ◌+◌, ◌≤◌, ◌<◌}
 use mathlib.Core.Path.{◌≡◌, refl, ap, ◌∙◌}
 use mathlib.Core.List.{List, ◌++◌}
-use lib.ListN.{length, replicate, take, drop, length-append}
-use lib.Seq.{sets, sets-eq, take-append_seam}
+use lib.ListN.{length, drop}
+use lib.Seq.{sets, sets-eq}
 use native.Mathlib.Omega.{arith}
 use borrow.Author.Tests.{ne_eqb, lt-ltb, le-ltb}
-use Rattle.machine_node_configuration.specs.declared.Response.{Response}
+use Rattle.base_lists.proofs.Choices.{by_test}
 use Rattle.machine_node_configuration.specs.declared.Identity.{Identity}
-use Rattle.machine_node_configuration.specs.declared.Reply.{Reply}
-use Rattle.machine_node_configuration.specs.Requests.{request_refusal}
-use Rattle.machine_node_configuration.specs.Responses.{response_to, address_after, configure_refusal, refuse, configured, responded, in_eight}
+use Rattle.machine_node_configuration.specs.Responses.{Reply}
+use Rattle.machine_node_configuration.specs.Requests.{node_product_identification, node_serial_number_identification, is_read, request_refusal, takes_assign}
+use Rattle.machine_node_configuration.specs.Responses.{response_to, address_after, configure_refusal, refuse, configured, responded}
 
 module _ (i : Identity) (address : ℕ) (s buffer : List ℕ) where
   -- a reply and a buffer as promised
@@ -32,13 +32,13 @@ module _ (i : Identity) (address : ℕ) (s buffer : List ℕ) where
       let n : 0 + length (response_to i s) ≡ length (response_to i s) = omega arith in
       rw (e, le-ltb _ _ l) (refl, sets-eq (response_to i s) buffer 0 (omega arith) ∙ ap (λ k. response_to i s ++ drop k buffer) n)
 
--- the response in eight bytes: its bytes stand at the front
-module _ (i : Identity) (s : List ℕ) (g : Response) (e : g ≡ in_eight (response_to i s)) where
-  pub front : take g.length g.bytes ≡ response_to i s
-  front = rw e (take-append_seam (response_to i s) (replicate (8 - length (response_to i s)) 0))
-
-  pub within : g.length ≤ length g.bytes
-  within = rw e (omega (arith, length-append (response_to i s) (replicate (8 - length (response_to i s)) 0)))
-
-  pub as_long : g.length ≡ length (response_to i s)
-  as_long = rw e
+-- no response is longer than eight bytes
+pub short : (i : Identity) (s : List ℕ) → length (response_to i s) ≤ 8
+unfolding response_to
+short i s =
+    by_test Short (takes_assign i s) (λ _. omega arith)
+    (λ _. by_test Short (is_read node_product_identification s) (λ _. omega arith)
+    (λ _. by_test Short (is_read node_serial_number_identification s) (λ _. omega arith) (λ _. omega arith)))
+  where
+    Short : List ℕ → Type 0
+    Short a = length a ≤ 8

@@ -3,11 +3,12 @@
 #![tactic(auto)]
 
 ghost use Rattle.std.specs.Prelude.{◌≡◌, length};
-ghost use Rattle.machine_node_configuration.specs.Responses.{refuse, configured, responded};
+ghost use Rattle.machine_node_configuration.specs.Responses.{configure_told, configured, responded};
 ghost use Rattle.machine_node_configuration.specs.Identity.{identity_of};
 
 use crate::offsets::{FUNCTION_AT, SERIAL_AT, SUPPLIER_AT, VARIANT_AT};
-use base_bytes::{byte_at, long_number, number_at, put};
+use base_bytes::{byte_at, long_number, number_at};
+use base_refusals::Refusal;
 
 mod offsets;
 mod requests;
@@ -24,23 +25,26 @@ pub struct Identity {
     pub serial: u32,
 }
 
+// What came of a request that is not refused.
 #[derive(Clone, Copy)]
-pub struct Reply {
-    pub refusal: u8,
-    // of the response, 0 for silence and refusals
+pub struct Configured {
+    // of the response, 0 for silence
     pub length: u8,
     // after the request
     pub address: u8,
 }
 
-// A response in the 8 bytes of the longest, the rest 0.
+// What a node responds, by kind; no bytes for silence.
 #[derive(Clone, Copy)]
-struct Response {
-    bytes: [u8; 8],
-    length: u8,
+enum Response {
+    Silence,
+    Assigned([u8; 3]),
+    SerialNumber([u8; 7]),
+    ProductIdentification([u8; 8]),
 }
 
 // The identity of packed bytes.
+#[tactic(auto, unfolding(crate::specs::Identity::identity_of))]
 pub fn identity_of(bytes: &[u8]) -> Identity
     ensures { result ≡ identity_of bytes.now }
 {
@@ -52,35 +56,23 @@ pub fn identity_of(bytes: &[u8]) -> Identity
     }
 }
 
-fn refuse(address: u8, refusal: u8) -> Reply
-    ensures { result ≡ refuse address refusal }
-{
-    Reply {
-        refusal,
-        length: 0,
-        address,
-    }
-}
-
 // Responds to a request at the front of a buffer. Refusals and silence leave address and buffer as they were.
-pub fn configure(identity: Identity, address: u8, request: &[u8], response: &mut [u8]) -> Reply
-    ensures { (result ≡ configured identity address request.now (length response.old))
+pub fn configure(
+    identity: Identity,
+    address: u8,
+    request: &[u8],
+    response: &mut [u8],
+) -> Result<Configured, Refusal>
+    ensures { (configure_told address result ≡ configured identity address request.now (length response.old))
         × (response.new ≡ responded identity request.now response.old) }
 {
-    let refusal = requests::request_refusal(request);
-    if refusal != 0 {
-        return refuse(address, refusal);
-    }
+    requests::judge(request)?;
     let given = responses::response_to(identity, request);
-    let bytes = given.bytes;
-    let length = given.length as usize;
-    if response.len() < length {
-        return refuse(address, 10);
-    }
-    put(response, 0, &bytes[..length]);
-    Reply {
-        refusal: 0,
-        length: given.length,
+    let length = given.length();
+    Refusal::BufferShort.unless(usize::from(length) <= response.len())?;
+    given.put(response);
+    Ok(Configured {
+        length,
         address: responses::address_after(identity, address, request),
-    }
+    })
 }

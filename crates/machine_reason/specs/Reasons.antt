@@ -1,6 +1,8 @@
 -- W-205: "For any accepted plan and master state in Normal give the first true reason of these".
-use Rattle.std.specs.Prelude.{ℕ, Bool, true, false, ltb, eqb, get_or}
+use Rattle.std.specs.Prelude.{ℕ, Bool, true, false, ltb, eqb, get_or, Result, Ok, Err}
 use Rattle.base_lists.specs.Bounded.{if_else, first_to}
+use Rattle.base_refusals.specs.declared.Refusal.{Refusal}
+use Rattle.base_refusals.specs.Numbers.{number}
 use Rattle.machine_state.specs.declared.State.{State}
 use Rattle.set_plan.specs.declared.Plan.{Plan}
 use Rattle.set_plan.specs.declared.Times.{Times}
@@ -13,7 +15,6 @@ use Rattle.machine_master.specs.Range.{in_range}
 use Rattle.machine_master.specs.Sleeping.{not_held}
 use Rattle.machine_reason.specs.declared.Cause.{Cause}
 use Rattle.machine_reason.specs.declared.Reason.{Reason}
-use Rattle.machine_reason.specs.declared.Explained.{Explained}
 
 -- "never answered since Normal, refused, aged out, damaged, or dropped by a wake-up", as the master stores it
 abbrev pub cause_of : ℕ → Cause
@@ -39,11 +40,21 @@ reason_by true nodecount Phase.Sending m = Reason.UnderWay
 reason_by true nodecount Phase.Withdrawn m = Reason.Owed
 reason_by true nodecount Phase.Closing m = Reason.UnderWay
 
+-- the reason, or a refusal's number and no reason
+pub record Explained : Type 0 where
+  pub refusal : ℕ
+  pub reason : Reason
+
 abbrev pub explained_by : Reason → Explained
 explained_by reason = record { refusal = 0; reason = reason }
 
 abbrev pub refused : ℕ → Explained
 refused number = record { refusal = number; reason = Reason.Nothing }
+
+-- what a call gives, so told
+abbrev pub explained : Result Reason Refusal → Explained
+explained (Ok reason) = explained_by reason
+explained (Err refusal) = refused (number refusal)
 
 -- "16 outside Normal"
 abbrev pub explain_by : Bool → ℕ → State → Master → Explained

@@ -9,10 +9,10 @@ use set_plan::Row;
 
 mod bytes;
 
-pub use bytes::{flag_byte, state_byte, state_of, table_at};
+pub use bytes::{bytes_at, flag_byte, state_byte, state_of, table_at};
 
 // The states of network management (ISO 20794-2, 9.3.2).
-#[derive(Clone, Copy)]
+#[derive(Clone, Copy, PartialEq, Eq)]
 pub enum State {
     Normal,
     Standby,
@@ -22,11 +22,7 @@ pub enum State {
 pub fn is_normal(state: State) -> bool
     ensures { result ≡ is_normal state }
 {
-    match state {
-        State::Normal => true,
-        State::Standby => false,
-        State::Sleep => false,
-    }
+    matches!(state, State::Normal)
 }
 
 // The state at power-on.
@@ -69,10 +65,8 @@ pub fn counts_below(counts: [u8; Row::REQIDS], limit: u8) -> bool
     ensures { result ≡ counts_below limit counts }
 {
     let mut above: u16 = 0;
-    let mut i: usize = 0;
-    while i < Row::REQIDS {
-        above += past(counts[i], limit);
-        i += 1;
+    for count in counts.iter() {
+        above += past(*count, limit);
     }
     above == 0
 }

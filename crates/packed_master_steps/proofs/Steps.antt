@@ -1,5 +1,5 @@
 -- The events that are done in the bytes of a state, as the master's own step has them.
-use Rattle.std.proofs.Common.{◌≡◌, ℕ, ◌<◌, Bool, true, false, not, ◌&&◌, eqb, ltb, get_or, sym, refl, ap, ◌∙◌, arith, ltb-true, eqb-true}
+use Rattle.std.proofs.Common.{◌≡◌, ℕ, ◌<◌, Bool, true, false, not, ◌&&◌, eqb, ltb, get_or, sym, refl, ap, ◌∙◌, arith, ltb-true, eqb-true, Option, Some, None}
 use borrow.Author.Tests.{not-true}
 use Rattle.base_lists.specs.Bounded.{if_else}
 use Rattle.base_lists.proofs.AllAny.{and_l, and_r}
@@ -9,7 +9,6 @@ use Rattle.machine_state.specs.Bytes.{state_byte}
 use Rattle.set_plan.specs.declared.Row.{Row}
 use Rattle.set_plan.specs.declared.Times.{Times}
 use Rattle.set_plan.specs.declared.Plan.{Plan}
-use Rattle.set_plan.specs.declared.Lookup.{Lookup}
 use Rattle.set_plan.specs.Limits.{reqids, seq_counts}
 use Rattle.set_plan.specs.Answering.{master_number, is_counted, accepts}
 use Rattle.set_plan.specs.Find.{find_row, rising_row}
@@ -45,20 +44,20 @@ unfolding master_bytes
 quiet_tick_lem p m right q = rw right (quiet_by p.times m.state m.phase (aged p.times.window m) q)
 
 -- what is known of a row that is accepted
-record Accepts (found : Lookup) (length : ℕ) (row : Row) : Type 0 where
-  is : found ≡ Lookup.Found row
+record Accepts (found : Option Row) (length : ℕ) (row : Row) : Type 0 where
+  is : found ≡ Some row
   node : eqb row.publisher master_number ≡ false
   long : accepts row length ≡ true
 
-accepts_only : (found : Lookup) (length : ℕ) (row : Row) → accepting found length ≡ Lookup.Found row → Accepts found length row
-accepts_only Lookup.Missing length row e = absurd (let z : ◌≡◌ {A = ℕ} 0 1 = cc in omega arith)
-accepts_only (Lookup.Found r) length row e = go (eqb r.publisher master_number) (accepts r length) refl refl
+accepts_only : (found : Option Row) (length : ℕ) (row : Row) → accepting found length ≡ Some row → Accepts found length row
+accepts_only None length row e = absurd (let z : ◌≡◌ {A = ℕ} 0 1 = cc in omega arith)
+accepts_only (Some r) length row e = go (eqb r.publisher master_number) (accepts r length) refl refl
   where
-    go : (a b : Bool) → eqb r.publisher master_number ≡ a → accepts r length ≡ b → Accepts (Lookup.Found r) length row
-    go true b h g = let w : Lookup.Missing ≡ Lookup.Found row = rw h at e in absurd (let z : ◌≡◌ {A = ℕ} 0 1 = cc in omega arith)
-    go false false h g = let w : Lookup.Missing ≡ Lookup.Found row = rw (h, g) at e in absurd (let z : ◌≡◌ {A = ℕ} 0 1 = cc in omega arith)
+    go : (a b : Bool) → eqb r.publisher master_number ≡ a → accepts r length ≡ b → Accepts (Some r) length row
+    go true b h g = let w : None ≡ Some row = rw h at e in absurd (let z : ◌≡◌ {A = ℕ} 0 1 = cc in omega arith)
+    go false false h g = let w : None ≡ Some row = rw (h, g) at e in absurd (let z : ◌≡◌ {A = ℕ} 0 1 = cc in omega arith)
     go false true h g =
-        let w : Lookup.Found r ≡ Lookup.Found row = rw (h, g) at e in
+        let w : Some r ≡ Some row = rw (h, g) at e in
         let z : r ≡ row = cc in
         record { is = w; node = rw z at h; long = rw z at g }
 
@@ -70,9 +69,9 @@ normal_only State.Sleep e = no_way e
 -- "held with age 0", and the count kept where the row has one
 whole-answer : (m : Master) (row : Row) (a : Answer) → m.state ≡ State.Normal → eqb row.publisher master_number ≡ false → a.result ≡ 0 → accepts row a.length ≡ true
     → a.permission ≡ true → a.wake ≡ false
-    → answer_step (Lookup.Found row) a m ≡ reports (if_else (is_counted row) (lost_after (get_or m.counts row.reqid 0) a.count) 0) (keeps row a.count m)
+    → answer_step (Some row) a m ≡ reports (if_else (is_counted row) (lost_after (get_or m.counts row.reqid 0) a.count) 0) (keeps row a.count m)
 whole-answer m row a normal node whole long permits calm =
-    ap (λ (s : State). answer_by s (Lookup.Found row) a m) normal ∙ rw (node, whole, long, permits, calm) (by_count (is_counted row))
+    ap (λ (s : State). answer_by s (Some row) a m) normal ∙ rw (node, whole, long, permits, calm) (by_count (is_counted row))
   where
     by_count : (b : Bool)
         → if_else b (reports (lost_after (get_or m.counts row.reqid 0) a.count) (hold row.publisher (with_cause cause_new row.publisher (count_stored row.reqid a.count m)))) (reports 0 (hold row.publisher (with_cause cause_new row.publisher m)))
@@ -87,7 +86,7 @@ pub record Keeps (p : Plan) (m : Master) (a : Answer) (row : Row) : Type 0 where
   pub step : step_under p m (Event.Answer a) ≡ reports (if_else (is_counted row) (lost_after (get_or m.counts row.reqid 0) a.count) 0) (keeps row a.count m)
 
 pub kept_answer : (p : Plan) (m : Master) (a : Answer) (row : Row) → plan_refusal p ≡ 0 → in_range (sleeps p) p.nodecount p.times m ≡ true → is_kept (master_bytes m) a ≡ true
-    → accepting (rising_row p a.reqid) a.length ≡ Lookup.Found row → Keeps p m a row
+    → accepting (rising_row p a.reqid) a.length ≡ Some row → Keeps p m a row
 unfolding master_bytes
 kept_answer p m a row ok right k f =
     let normal = eqb (state_byte m.state) 0 in
@@ -103,7 +102,7 @@ kept_answer p m a row ok right k f =
     let is-wake : a.wake ≡ false = not-true a.wake (and_r a.permission (not a.wake) is-bits) in
     let is_whole : a.result ≡ 0 = eqb-true _ _ (and_r (normal && fits && bits) whole k) in
     let known = accepts_only (rising_row p a.reqid) a.length row f in
-    let found : find_row p a.reqid ≡ Lookup.Found row = sym (rising_found p ok a.reqid) ∙ known.is in
+    let found : find_row p a.reqid ≡ Some row = sym (rising_found p ok a.reqid) ∙ known.is in
     let place = found_row p a.reqid row found in
     let publisher = found_publisher p a.reqid row ok found known.node in
     record {

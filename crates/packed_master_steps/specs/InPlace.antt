@@ -1,11 +1,10 @@
 -- A tick and a whole answer in the bytes of a master's state.
-use Rattle.std.specs.Prelude.{ℕ, ◌+◌, ◌*◌, ◌%◌, ◌^◌, Bool, true, not, ◌&&◌, ◌||◌, List, [], ◌∷◌, take, ◌==◌, nat_le, nat_lt}
+use Rattle.std.specs.Prelude.{ℕ, ◌+◌, ◌*◌, ◌%◌, ◌^◌, Bool, true, not, ◌&&◌, ◌||◌, List, [], ◌∷◌, take, ◌==◌, nat_le, nat_lt, Option, Some, None}
 use Rattle.std.proofs.lemmas.List.Edits.{sets}
 use Rattle.base_lists.specs.Bounded.{if_else}
 use Rattle.base_bytes.specs.Bytes.{byte, long_number, four_bytes}
 use Rattle.set_plan.specs.declared.Row.{Row}
 use Rattle.set_plan.specs.declared.Plan.{Plan}
-use Rattle.set_plan.specs.declared.Lookup.{Lookup}
 use Rattle.set_plan.specs.Limits.{reqids, seq_counts}
 use Rattle.set_plan.specs.Answering.{master_number, is_counted, accepts}
 use Rattle.set_plan.specs.Find.{rising_row}
@@ -17,7 +16,6 @@ use Rattle.machine_master.specs.Changes.{cause_new, cause_aged}
 use Rattle.machine_master.specs.Ticks.{older, all_older, all_aged_out}
 use Rattle.packed_master.specs.Offsets.{state_at, phase_at, ticks_at, holds_at, counts_at, causes_at}
 use Rattle.packed_master.specs.States.{hold_bytes, holds_bytes, hold_of, holds_of, causes_of}
-use Rattle.packed_master_steps.specs.declared.Outcome.{Outcome}
 
 abbrev pub is_normal_at : List ℕ → Bool
 is_normal_at s = byte s state_at == 0
@@ -58,12 +56,12 @@ abbrev pub is_kept : List ℕ → Answer → Bool
 is_kept s a = is_normal_at s && (nat_lt a.reqid reqids && nat_lt a.count seq_counts) && (a.permission && not a.wake) && a.result == 0
 
 -- its row, where it is a node's and accepts the length
-abbrev pub accepting : Lookup → ℕ → Lookup
-accepting Lookup.Missing length = Lookup.Missing
-accepting (Lookup.Found row) length = if_else (row.publisher == master_number) Lookup.Missing (if_else (accepts row length) (Lookup.Found row) Lookup.Missing)
+abbrev pub accepting : Option Row → ℕ → Option Row
+accepting None length = None
+accepting (Some row) length = if_else (row.publisher == master_number) None (if_else (accepts row length) (Some row) None)
 
-abbrev pub kept_row : Plan → List ℕ → Answer → Lookup
-kept_row p s a = if_else (is_kept s a) (accepting (rising_row p a.reqid) a.length) Lookup.Missing
+abbrev pub kept_row : Plan → List ℕ → Answer → Option Row
+kept_row p s a = if_else (is_kept s a) (accepting (rising_row p a.reqid) a.length) None
 
 -- "where the row has a count, report as lost .., and store it"
 abbrev pub lost_before : Row → ℕ → List ℕ → ℕ
@@ -78,23 +76,23 @@ answer_kept row count s =
     sets (sets (count_kept row count s) (holds_at + 3 * row.publisher) (hold_bytes (record { held = true; age = 0 }))) (causes_at + row.publisher) (cause_new ∷ [])
 
 -- an answer, by its row
-abbrev pub answer_outcome : Lookup → ℕ → List ℕ → Outcome
-answer_outcome Lookup.Missing count s = Outcome.Left
-answer_outcome (Lookup.Found row) count s = Outcome.Done (lost_before row count s)
+abbrev pub answer_outcome : Option Row → ℕ → List ℕ → Option ℕ
+answer_outcome None count s = None
+answer_outcome (Some row) count s = Some (lost_before row count s)
 
-abbrev pub answer_leaves : Lookup → ℕ → List ℕ → List ℕ
-answer_leaves Lookup.Missing count s = s
-answer_leaves (Lookup.Found row) count s = answer_kept row count s
+abbrev pub answer_leaves : Option Row → ℕ → List ℕ → List ℕ
+answer_leaves None count s = s
+answer_leaves (Some row) count s = answer_kept row count s
 
 -- what is done of an event in a state's bytes, and what that leaves there
-abbrev pub outcome : Plan → List ℕ → Event → Outcome
-outcome p s Event.Tick = if_else (is_quiet s) (Outcome.Done 0) Outcome.Left
+abbrev pub outcome : Plan → List ℕ → Event → Option ℕ
+outcome p s Event.Tick = if_else (is_quiet s) (Some 0) None
 outcome p s (Event.Answer a) = answer_outcome (kept_row p s a) a.count s
-outcome p s Event.Pulse = Outcome.Left
-outcome p s Event.WakeAsk = Outcome.Left
-outcome p s (Event.Permission permitted) = Outcome.Left
-outcome p s Event.SleepAsk = Outcome.Left
-outcome p s (Event.SendResult sent) = Outcome.Left
+outcome p s Event.Pulse = None
+outcome p s Event.WakeAsk = None
+outcome p s (Event.Permission permitted) = None
+outcome p s Event.SleepAsk = None
+outcome p s (Event.SendResult sent) = None
 
 abbrev pub leaves : Plan → List ℕ → Event → List ℕ
 leaves p s Event.Tick = if_else (is_quiet s) (aged_bytes p.nodecount p.times.window s) s

@@ -12,18 +12,8 @@ ghost use Rattle.packed_master_steps.specs.InPlace.{is_quiet, node_aged, aged_no
 
 use base_bytes::{byte_at, long_number, number_at, put};
 use machine_master::{Answer, Event, Hold, Master, lost_after, older};
-use machine_state::flag_byte;
 use packed_master::{CAUSES_AT, COUNTS_AT, HOLDS_AT, PHASE_AT, STATE_AT, TICKS_AT, hold_of};
-use set_plan::{Lookup, Plan, Row};
-
-// Whether an event is done in the bytes of a state.
-#[derive(Clone, Copy)]
-pub enum Outcome {
-    // with the answers lost before it; its reply commands nothing and is no refusal
-    Done(u8),
-    // left to the machine
-    Left,
-}
+use set_plan::{Plan, Row};
 
 fn put_byte(state: &mut [u8], offset: usize, value: u8)
     ensures { state.new ≡ sets state.old offset (value ∷ []) }
@@ -38,22 +28,21 @@ fn put_hold(state: &mut [u8], node: u8, hold: Hold)
     ensures { state.new ≡ sets state.old (holds_at + 3 * node) (hold_bytes hold) }
 {
     let start = HOLDS_AT + ((3 * (node as u32)) as usize);
-    put_byte(state, start, flag_byte(hold.held));
-    put_byte(state, start + 1, (hold.age / 256) as u8);
-    put_byte(state, start + 2, (hold.age % 256) as u8);
+    let [high, low] = hold.age.to_be_bytes();
+    put_byte(state, start, u8::from(hold.held));
+    put_byte(state, start + 1, high);
+    put_byte(state, start + 2, low);
 }
 
 fn age_node(state: &mut [u8], k: u8, nodes: u8, window: u16, normal: bool)
     ensures { state.new ≡ if_else (nat_lt k nodes) (node_aged normal window k state.old) state.old }
 {
-    if k >= nodes {
-        return;
-    }
-    let hold = hold_of(state, k);
-    put_hold(state, k, older(window, hold));
-    let due = normal & hold.held & (window <= hold.age);
-    if due {
-        put_byte(state, CAUSES_AT + (k as usize), Master::AGED);
+    if k < nodes {
+        let hold = hold_of(state, k);
+        put_hold(state, k, older(window, hold));
+        if normal & hold.held & (window <= hold.age) {
+            put_byte(state, CAUSES_AT + (k as usize), Master::AGED);
+        }
     }
 }
 
@@ -62,27 +51,17 @@ fn age_nodes(state: &mut [u8], nodes: u8, window: u16)
     ensures { state.new ≡ aged_nodes nodes window state.old }
 {
     let normal = byte_at(state, STATE_AT) == 0;
-    let mut k: u8 = 0;
-    while (k as usize) < Plan::NODES {
+    for k in 0..Plan::NODES as u8 {
         age_node(state, k, nodes, window, normal);
-        k += 1;
     }
 }
 
+#[tactic(auto, unfolding(crate::specs::InPlace::tick_number_up))]
 fn next_tick(state: &mut [u8])
     ensures { state.new ≡ tick_number_up state.old }
 {
     let ticks = long_number(number_at(state, TICKS_AT), number_at(state, TICKS_AT + 2));
-    let next = std::num::wrapping_add_u32(ticks, 1);
-    let high = next / 65536;
-    let low = next % 65536;
-    let bytes = [
-        (high / 256) as u8,
-        (high % 256) as u8,
-        (low / 256) as u8,
-        (low % 256) as u8,
-    ];
-    put(state, TICKS_AT, &bytes[..]);
+    put(state, TICKS_AT, &ticks.wrapping_add(1).to_be_bytes()[..]);
 }
 
 // Whether a tick leaves state and phase.
@@ -113,33 +92,20 @@ fn is_kept(state: &[u8], answer: Answer) -> bool
 }
 
 // A row, where a node publishes it and it accepts a length.
-fn accepting(row: Lookup, length: u16) -> Lookup
+fn accepting(row: Option<Row>, length: u16) -> Option<Row>
     ensures { result ≡ accepting row length }
 {
-    match row {
-        Lookup::Missing => Lookup::Missing,
-        Lookup::Found(found) => {
-            if found.publisher == Plan::MASTER {
-                Lookup::Missing
-            } else {
-                if found.accepts(length) {
-                    Lookup::Found(found)
-                } else {
-                    Lookup::Missing
-                }
-            }
-        }
-    }
+    row.filter(|found| found.publisher != Plan::MASTER && found.accepts(length))
 }
 
 // The row of an answer that is kept in the state's bytes.
-fn kept_row(plan: &[u8], state: &[u8], answer: Answer) -> Lookup
+fn kept_row(plan: &[u8], state: &[u8], answer: Answer) -> Option<Row>
     ensures { result ≡ kept_row (record_of plan.now) state.now answer }
 {
     if is_kept(state, answer) {
         accepting(set_record::rising_row_of(plan, answer.reqid), answer.length)
     } else {
-        Lookup::Missing
+        None
     }
 }
 
@@ -151,9 +117,10 @@ fn keep_count(state: &mut [u8], row: Row, count: u8) -> u8
         let place = COUNTS_AT + (row.reqid as usize);
         let lost = lost_after(byte_at(state, place), count);
         put_byte(state, place, count);
-        return lost;
+        lost
+    } else {
+        0
     }
-    0
 }
 
 // A whole answer that permits sleep and wakes nobody; gives the answers lost before it.
@@ -161,47 +128,44 @@ fn keep_answer(state: &mut [u8], row: Row, count: u8) -> u8
     ensures { (result ≡ lost_before row count state.old) × (state.new ≡ answer_kept row count state.old) }
 {
     let lost = keep_count(state, row, count);
-    let given = Hold { held: true, age: 0 };
-    put_hold(state, row.publisher, given);
+    put_hold(state, row.publisher, Hold { held: true, age: 0 });
     put_byte(state, CAUSES_AT + (row.publisher as usize), Master::NEW);
     lost
 }
 
-fn tick_in_place(plan: &[u8], state: &mut [u8]) -> Outcome
+fn tick_in_place(plan: &[u8], state: &mut [u8]) -> Option<u8>
     ensures { (result ≡ outcome (record_of plan.now) state.old Event.Tick)
         × (state.new ≡ leaves (record_of plan.now) state.old Event.Tick) }
 {
-    if !is_quiet(state) {
-        return Outcome::Left;
+    if is_quiet(state) {
+        age(
+            state,
+            set_record::node_count(plan),
+            set_record::times_of(plan).window,
+        );
+        Some(0)
+    } else {
+        None
     }
-    let times = set_record::times_of(plan);
-    age(state, set_record::node_count(plan), times.window);
-    Outcome::Done(0)
 }
 
-fn answer_in_place(plan: &[u8], state: &mut [u8], answer: Answer) -> Outcome
+fn answer_in_place(plan: &[u8], state: &mut [u8], answer: Answer) -> Option<u8>
     ensures { (result ≡ outcome (record_of plan.now) state.old (Event.Answer answer))
         × (state.new ≡ leaves (record_of plan.now) state.old (Event.Answer answer)) }
 {
-    let row = kept_row(plan, state, answer);
-    match row {
-        Lookup::Found(found) => Outcome::Done(keep_answer(state, found, answer.count)),
-        Lookup::Missing => Outcome::Left,
-    }
+    let row = kept_row(plan, state, answer)?;
+    Some(keep_answer(state, row, answer.count))
 }
 
-// Does a tick or a whole answer in the bytes of a state, where that is simple. Where plan and state are judged it is the machine's step.
-pub fn step_in_place(plan: &[u8], state: &mut [u8], event: Event) -> Outcome
+// Does a tick or a whole answer in the bytes of a state, where that is simple. Where plan and state are judged it is the machine's step, whose
+// reply commands nothing and is no refusal: the answers lost before it come back. None leaves the event to the machine.
+pub fn step_in_place(plan: &[u8], state: &mut [u8], event: Event) -> Option<u8>
     ensures { (result ≡ outcome (record_of plan.now) state.old event)
         × (state.new ≡ leaves (record_of plan.now) state.old event) }
 {
     match event {
         Event::Tick => tick_in_place(plan, state),
         Event::Answer(answer) => answer_in_place(plan, state, answer),
-        Event::Pulse => Outcome::Left,
-        Event::WakeAsk => Outcome::Left,
-        Event::Permission(_) => Outcome::Left,
-        Event::SleepAsk => Outcome::Left,
-        Event::SendResult(_) => Outcome::Left,
+        _ => None,
     }
 }

@@ -1,4 +1,5 @@
 -- The first bytes of a node's state, and all of them put into a buffer.
+use Rattle.std.specs.Prelude.{Option, Some, None}
 use Prim.Native.Nat.{ℕ, ◌+◌, ◌/◌, ◌%◌}
 use mathlib.Core.Path.{◌≡◌, refl, ap, sym, ◌∙◌}
 use mathlib.Core.Bool.{Bool, true, false}
@@ -10,7 +11,6 @@ use Rattle.base_lists.proofs.Stores.{sets-append}
 use Rattle.base_bytes.specs.Bytes.{high_byte, low_byte, four_bytes}
 use Rattle.machine_state.specs.State.{start_state}
 use Rattle.machine_state.specs.Bytes.{state_byte, flag_byte}
-use Rattle.machine_node.specs.declared.Delay.{Delay}
 use Rattle.machine_node.specs.declared.Node.{Node}
 use Rattle.machine_node.specs.Changes.{power_on}
 use Rattle.packed_node.specs.States.{delay_bytes, node_head, node_bytes}
@@ -26,9 +26,9 @@ pub head_listed : (n : Node) → head_list n ≡ node_head n
 head_listed n = ap (λ l. state_byte n.state ∷ flag_byte n.permission ∷ flag_byte n.error ∷ flag_byte n.wake ∷ flag_byte n.heard ∷ flag_byte n.caller
     ∷ high_byte n.quiet ∷ low_byte n.quiet ∷ l ++ four_bytes n.standby) (three n.delay)
   where
-    three : (d : Delay) → get_or (delay_bytes d) 0 0 ∷ get_or (delay_bytes d) 1 0 ∷ get_or (delay_bytes d) 2 0 ∷ [] ≡ delay_bytes d
-    three Delay.Off = refl
-    three (Delay.On ticks) = refl
+    three : (d : Option ℕ) → get_or (delay_bytes d) 0 0 ∷ get_or (delay_bytes d) 1 0 ∷ get_or (delay_bytes d) 2 0 ∷ [] ≡ delay_bytes d
+    three None = refl
+    three (Some ticks) = refl
 
 pub head_long : (n : Node) → length (node_head n) ≡ 15
 head_long n = sym (ap length (head_listed n))

@@ -1,4 +1,5 @@
 -- A node and its bytes, each back into the other; and what bytes that are no state, or no event, are taken for.
+use Rattle.std.specs.Prelude.{Option, Some, None}
 use Prim.Native.Nat.{ℕ, ◌+◌, ◌*◌, ◌<◌}
 use mathlib.Core.Path.{◌≡◌, refl, ap, sym, ◌∙◌}
 use mathlib.Core.Bool.{Bool, true, false, ◌||◌}
@@ -15,7 +16,6 @@ use Rattle.base_bytes.specs.Bytes.{byte, number, high_byte, low_byte}
 use Rattle.base_bytes.proofs.Halves.{from_halves, high_at, low_at, long_high_at, long_low_at, from_quarters}
 use Rattle.machine_state.specs.Bytes.{state_of, flag_byte, flag_of, table_at}
 use Rattle.machine_state.proofs.ByteTrips.{state_back, state_byte_back, state_byte_low, flag_back, flag_byte_back, flag_byte_low, head_and_table}
-use Rattle.machine_node.specs.declared.Delay.{Delay}
 use Rattle.machine_node.specs.declared.Node.{Node}
 use Rattle.packed_node.specs.States.{delay_bytes, delay_of, node_head, node_bytes, is_node, node_from, node_of}
 use Rattle.packed_node.proofs.Heads.{head_list, head_listed, head_long}
@@ -40,9 +40,9 @@ module _ (n : Node) (counts_long : length n.counts ≡ 128) where
   delay_back : delay_of (byte (node_bytes n) 8) (number (node_bytes n) 9) ≡ n.delay
   delay_back = rw (listed_byte 8 (omega arith), listed_byte 9 (omega arith), listed_byte 10 (omega arith)) (go n.delay)
     where
-      go : (d : Delay) → delay_of (get_or (delay_bytes d) 0 0) (get_or (delay_bytes d) 1 0 * 256 + get_or (delay_bytes d) 2 0) ≡ d
-      go Delay.Off = refl
-      go (Delay.On ticks) = ap Delay.On (from_halves ticks _ _ refl refl)
+      go : (d : Option ℕ) → delay_of (get_or (delay_bytes d) 0 0) (get_or (delay_bytes d) 1 0 * 256 + get_or (delay_bytes d) 2 0) ≡ d
+      go None = refl
+      go (Some ticks) = ap Some (from_halves ticks _ _ refl refl)
 
   flag_at_lem : (o : ℕ) (f : Bool) → o < 15 → get_or (head_list n) o 0 ≡ flag_byte f → flag_of (byte (node_bytes n) o) ≡ f
   flag_at_lem o f h e = ap flag_of (listed_byte o h ∙ e) ∙ flag_back f
@@ -69,9 +69,9 @@ module _ (n : Node) (counts_long : length n.counts ≡ 128) where
   delay_right_lem : (ltb (byte (node_bytes n) 8) 2 ≡ true) × ((eqb (byte (node_bytes n) 8) 1 || eqb (number (node_bytes n) 9) 0) ≡ true)
   delay_right_lem = rw (listed_byte 8 (omega arith), listed_byte 9 (omega arith), listed_byte 10 (omega arith)) (go n.delay)
     where
-      go : (d : Delay) → (ltb (get_or (delay_bytes d) 0 0) 2 ≡ true) × ((eqb (get_or (delay_bytes d) 0 0) 1 || eqb (get_or (delay_bytes d) 1 0 * 256 + get_or (delay_bytes d) 2 0) 0) ≡ true)
-      go Delay.Off = (refl, refl)
-      go (Delay.On ticks) = (refl, refl)
+      go : (d : Option ℕ) → (ltb (get_or (delay_bytes d) 0 0) 2 ≡ true) × ((eqb (get_or (delay_bytes d) 0 0) 1 || eqb (get_or (delay_bytes d) 1 0 * 256 + get_or (delay_bytes d) 2 0) 0) ≡ true)
+      go None = (refl, refl)
+      go (Some ticks) = (refl, refl)
 
   pub packed_long : length (node_bytes n) ≡ 143
   unfolding node_bytes

@@ -1,20 +1,19 @@
 -- A node's state as bytes.
-use Rattle.std.specs.Prelude.{ℕ, ◌+◌, Bool, true, false, ◌&&◌, ◌||◌, List, [], ◌∷◌, ◌++◌, length, ltb, eqb}
+use Rattle.std.specs.Prelude.{ℕ, ◌+◌, Bool, true, false, ◌&&◌, ◌||◌, List, [], ◌∷◌, ◌++◌, length, ltb, eqb, Option, Some, None}
 use Rattle.base_lists.specs.Bounded.{if_else}
 use Rattle.base_bytes.specs.Bytes.{byte, number, two_bytes, long_number, four_bytes}
 use Rattle.machine_state.specs.Bytes.{state_byte, state_of, flag_byte, flag_of, table_at}
-use Rattle.machine_node.specs.declared.Delay.{Delay}
 use Rattle.machine_node.specs.declared.Node.{Node}
 use Rattle.machine_node.specs.Changes.{power_on, with_standby}
 use Rattle.packed_node.specs.Offsets.{state_at, permission_at, error_at, wake_at, heard_at, caller_at, quiet_at, delay_at, standby_at, counts_at, node_length}
 
 -- a sleep delay: 1 while it runs, else 0; its ticks, 0 where none runs
-abbrev pub delay_bytes : Delay → List ℕ
-delay_bytes Delay.Off = 0 ∷ 0 ∷ 0 ∷ []
-delay_bytes (Delay.On ticks) = 1 ∷ two_bytes ticks
+abbrev pub delay_bytes : Option ℕ → List ℕ
+delay_bytes None = 0 ∷ 0 ∷ 0 ∷ []
+delay_bytes (Some ticks) = 1 ∷ two_bytes ticks
 
-abbrev pub delay_of : ℕ → ℕ → Delay
-delay_of runs ticks = if_else (eqb runs 1) (Delay.On ticks) Delay.Off
+abbrev pub delay_of : ℕ → ℕ → Option ℕ
+delay_of runs ticks = if_else (eqb runs 1) (Some ticks) None
 
 -- state, permission, network error, wake bit, heard, caller, quiet count, sleep delay, standby count
 abbrev pub node_head : Node → List ℕ

@@ -5,7 +5,6 @@ ghost use Rattle.packed_node.specs.Replies.{reply_bytes, replied};
 use crate::offsets::REPLY_LENGTH;
 use base_bytes::put;
 use machine_node::Command;
-use machine_state::flag_byte;
 
 fn reply_bytes(command: Command) -> [u8; REPLY_LENGTH]
     ensures { result ≡ reply_bytes command }
@@ -17,7 +16,7 @@ fn reply_bytes(command: Command) -> [u8; REPLY_LENGTH]
             permission,
             wake,
             count,
-        } => [2, flag_byte(permission), flag_byte(wake), count],
+        } => [2, u8::from(permission), u8::from(wake), count],
     }
 }
 
@@ -25,9 +24,7 @@ fn reply_bytes(command: Command) -> [u8; REPLY_LENGTH]
 pub fn put_reply(buffer: &mut [u8], command: Command)
     ensures { buffer.new ≡ replied command buffer.old }
 {
-    if buffer.len() < REPLY_LENGTH {
-        return;
+    if REPLY_LENGTH <= buffer.len() {
+        put(buffer, 0, &reply_bytes(command)[..]);
     }
-    let bytes = reply_bytes(command);
-    put(buffer, 0, &bytes[..]);
 }

@@ -9,52 +9,49 @@ use crate::offsets::{
     STANDBY_AT, STATE_AT, WAKE_AT,
 };
 use base_bytes::{byte_at, long_number, number_at, put};
-use machine_node::{Delay, Node};
-use machine_state::{flag_byte, start_state, state_byte, state_of, table_at};
+use machine_node::Node;
+use machine_state::{State, start_state, table_at};
 
-fn delay_bytes(delay: Delay) -> [u8; 3]
+fn delay_bytes(delay: Option<u16>) -> [u8; 3]
     ensures { result ≡ delay_bytes delay }
 {
     match delay {
-        Delay::Off => [0, 0, 0],
-        Delay::On(ticks) => [1, (ticks / 256) as u8, (ticks % 256) as u8],
+        None => [0, 0, 0],
+        Some(ticks) => {
+            let [high, low] = ticks.to_be_bytes();
+            [1, high, low]
+        }
     }
 }
 
-fn delay_of(runs: u8, ticks: u16) -> Delay
+fn delay_of(runs: u8, ticks: u16) -> Option<u16>
     ensures { result ≡ delay_of runs ticks }
 {
-    if runs == 1 {
-        Delay::On(ticks)
-    } else {
-        Delay::Off
-    }
+    (runs == 1).then_some(ticks)
 }
 
 fn node_head(node: Node) -> [u8; COUNTS_AT]
     ensures { result ≡ node_head node }
 {
-    let state = node.state;
-    let delay = node.delay;
-    let high = node.standby / 65536;
-    let low = node.standby % 65536;
-    let ticks = delay_bytes(delay);
+    let [quiet_high, quiet_low] = node.quiet.to_be_bytes();
+    let [runs, delay_high, delay_low] = delay_bytes(node.delay);
+    let [s0, s1, s2, s3] = node.standby.to_be_bytes();
     [
-        state_byte(state),
-        flag_byte(node.permission),
-        flag_byte(node.error),
-        flag_byte(node.wake),
-        flag_byte(node.heard),
-        flag_byte(node.caller),
-        (node.quiet / 256) as u8,
-        (node.quiet % 256) as u8,
-        ticks[0],
-        ticks[1],
-        ticks[2],
-        (high / 256) as u8,
-        (high % 256) as u8,
-        (low / 256) as u8,
-        (low % 256) as u8,
+        u8::from(node.state),
+        u8::from(node.permission),
+        u8::from(node.error),
+        u8::from(node.wake),
+        u8::from(node.heard),
+        u8::from(node.caller),
+        quiet_high,
+        quiet_low,
+        runs,
+        delay_high,
+        delay_low,
+        s0,
+        s1,
+        s2,
+        s3,
     ]
 }
 
@@ -62,10 +59,8 @@ fn node_head(node: Node) -> [u8; COUNTS_AT]
 pub fn put_node(buffer: &mut [u8], node: Node)
     ensures { buffer.new ≡ sets buffer.old 0 (node_bytes node) }
 {
-    let counts = node.counts;
-    let head = node_head(node);
-    put(buffer, 0, &head[..]);
-    put(buffer, COUNTS_AT, &counts[..]);
+    put(buffer, 0, &node_head(node)[..]);
+    put(buffer, COUNTS_AT, &node.counts[..]);
 }
 
 // Puts the state at power-on at the front of a buffer: constants, which the compiler stores without reckoning them from a node.
@@ -73,10 +68,11 @@ pub fn put_power_on(buffer: &mut [u8], sleeps: bool)
     ensures { buffer.new ≡ sets buffer.old 0 (node_bytes (power_on sleeps)) }
 {
     let mut bytes = [0; LENGTH];
-    bytes[STATE_AT] = state_byte(start_state(sleeps));
+    bytes[STATE_AT] = u8::from(start_state(sleeps));
     put(buffer, 0, &bytes[..]);
 }
 
+#[tactic(auto, unfolding(crate::specs::States::is_node))]
 fn is_node(bytes: &[u8]) -> bool
     ensures { result ≡ is_node bytes.now }
 {
@@ -94,23 +90,20 @@ fn is_node(bytes: &[u8]) -> bool
 fn node_from(bytes: &[u8]) -> Node
     ensures { result ≡ node_from bytes.now }
 {
-    let state = state_of(byte_at(bytes, STATE_AT));
-    let delay = delay_of(byte_at(bytes, DELAY_AT), number_at(bytes, DELAY_AT + 1));
-    let counts = table_at(bytes, COUNTS_AT);
     Node {
-        state,
+        state: State::from(byte_at(bytes, STATE_AT)),
         permission: byte_at(bytes, PERMISSION_AT) == 1,
         error: byte_at(bytes, ERROR_AT) == 1,
         wake: byte_at(bytes, WAKE_AT) == 1,
         heard: byte_at(bytes, HEARD_AT) == 1,
         caller: byte_at(bytes, CALLER_AT) == 1,
         quiet: number_at(bytes, QUIET_AT),
-        delay,
+        delay: delay_of(byte_at(bytes, DELAY_AT), number_at(bytes, DELAY_AT + 1)),
         standby: long_number(
             number_at(bytes, STANDBY_AT),
             number_at(bytes, STANDBY_AT + 2),
         ),
-        counts,
+        counts: table_at(bytes, COUNTS_AT),
     }
 }
 

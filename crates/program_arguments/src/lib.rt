@@ -2,11 +2,10 @@
 #![tactic(auto)]
 
 ghost use Rattle.std.specs.Prelude.{◌≡◌};
-ghost use Rattle.base_text.specs.Text.{Appended, Shown, Counts};
+ghost use Rattle.base_text.specs.Text.{wrote, Shown, Counts};
 ghost use Rattle.program_arguments.specs.Arguments.{invocation_by_one, invocation_of, usage_text, help_text};
 
-use base_bytes::byte_at;
-use base_text::{append, below, same};
+use base_text::Writer;
 
 #[derive(Clone, Copy)]
 pub enum Invocation {
@@ -20,68 +19,64 @@ pub enum Invocation {
 }
 
 // What one argument asks for. An empty one names no file, and what starts with `-` is an option: `./-` names such a file.
+#[tactic(auto, using(base_text::proofs::Equal::pointwise_same))]
 fn invocation_by_one(argument: &[u8]) -> Invocation
     ensures { result ≡ invocation_by_one argument.now }
 {
-    if same(argument, b"--help") {
+    if argument == b"--help".as_slice() {
         return Invocation::Help;
     }
-    if argument.len() == 0 {
-        return Invocation::Usage;
+    match argument {
+        [] | [b'-', ..] => Invocation::Usage,
+        _ => Invocation::Named,
     }
-    if byte_at(argument, 0) == 45 {
-        return Invocation::Usage;
-    }
-    Invocation::Named
 }
 
 // What the arguments ask for, of which the first is the program's own name and the second given.
 pub fn invocation_of(count: usize, argument: &[u8]) -> Invocation
     ensures { result ≡ invocation_of count argument.now }
 {
-    if count < 2 {
-        return Invocation::Default;
+    match count {
+        0 | 1 => Invocation::Default,
+        2 => invocation_by_one(argument),
+        _ => Invocation::Usage,
     }
-    if 2 < count {
-        return Invocation::Usage;
-    }
-    invocation_by_one(argument)
 }
 
-fn append_usage(buffer: &mut [u8], at: usize, program: &[u8]) -> usize
-    ensures { Appended at (usage_text program.now) buffer.old buffer.new result }
+fn append_usage(out: &mut Writer<'_>, program: &[u8])
+    ensures { out.new ≡ wrote (usage_text program.now) out.old }
 {
-    let a = append(buffer, at, b"usage: ");
-    let b = append(buffer, a, program);
-    append(buffer, b, b" [FILE]\n")
+    out.append(b"usage: ");
+    out.append(program);
+    out.append(b" [FILE]\n");
 }
 
-fn append_help(buffer: &mut [u8], at: usize, program: &[u8], about: &[u8]) -> usize
-    ensures { Appended at (help_text program.now about.now) buffer.old buffer.new result }
+fn append_help(out: &mut Writer<'_>, program: &[u8], about: &[u8])
+    ensures { out.new ≡ wrote (help_text program.now about.now) out.old }
 {
-    let a = append_usage(buffer, at, program);
-    let b = append(buffer, a, about);
-    append(
-        buffer,
-        b,
-        b"FILE is the release set, plan.set if none is named.\n",
-    )
+    append_usage(out, program);
+    out.append(about);
+    out.append(b"FILE is the release set, plan.set if none is named.\n");
 }
 
 // The line of a wrong call.
+#[tactic(auto, unfolding(base_text::specs::Text::wrote))]
 pub fn usage(program: &[u8], buffer: &mut [u8]) -> usize
     ensures shown { Shown (usage_text program.now) buffer.old buffer.new result }
     ensures counts { Counts result buffer.new }
 {
-    let end = append_usage(buffer, 0, program);
-    below(&buffer[..], end)
+    let mut out = Writer::new(buffer);
+    append_usage(&mut out, program);
+    out.length()
 }
 
 // That line, what the program does, and what FILE is.
+#[tactic(auto, unfolding(base_text::specs::Text::wrote))]
 pub fn help(program: &[u8], about: &[u8], buffer: &mut [u8]) -> usize
     ensures shown { Shown (help_text program.now about.now) buffer.old buffer.new result }
     ensures counts { Counts result buffer.new }
 {
-    let end = append_help(buffer, 0, program, about);
-    below(&buffer[..], end)
+    let mut out = Writer::new(buffer);
+    append_help(&mut out, program, about);
+    out.length()
 }

@@ -2,45 +2,25 @@
 // drill_feed's.
 #![tactic(auto)]
 
-ghost use Rattle.std.specs.Prelude.{◌≡◌, length};
+ghost use Rattle.std.specs.Prelude.{◌≡◌};
+ghost use Rattle.base_refusals.specs.Numbers.{number_of};
 ghost use Rattle.set_reader.specs.Read.{read_set};
 
-use base_text::below;
+use base_refusals::Refusal;
+use base_text::Writer;
 use drill_feed::Drill;
 use drill_why::append_why;
 use machine_reason::explain;
-use program_files::print;
+use program_files::{print, turns, with_plan};
 use set_plan::Plan;
 use std::io::Read;
+use std::ops::ControlFlow;
 
-#[derive(Clone, Copy)]
-struct Turn {
-    drill: Drill,
-    more: bool,
-    // whether every line so far was
-    printed: bool,
-}
+// Bytes of one read. Each gives at most 80 of text, and program_files' text room has 65,536 places.
+const READ_LENGTH: usize = 800;
 
-// Room for one read. Each of its bytes gives at most 80 of text, and program_files' text room has 65,536 places.
-fn input_room() -> [u8; 800]
-    ensures { 800 ≡ length result }
-{
-    [0; 800]
-}
-
-fn end(rt: &HostRuntime, program: &[u8], drill: Drill, out: &mut [u8]) -> Turn {
-    let fed = drill.finish(out);
-    let length = fed.length;
-    let last = fed.drill;
-    let printed = print(rt, program, true, &out[..length]);
-    Turn {
-        drill: last,
-        more: false,
-        printed,
-    }
-}
-
-// Reads once, and prints what the bytes give.
+// Reads once, and prints what the bytes give, at the end of the input what a line gives that has not ended. The last drill comes back where
+// every line so far was printed.
 fn read_on(
     rt: &HostRuntime,
     program: &[u8],
@@ -48,81 +28,70 @@ fn read_on(
     drill: Drill,
     input: &mut [u8],
     out: &mut [u8],
-) -> Turn {
+) -> ControlFlow<Option<Drill>, Drill> {
     let count = program_files::read_some(rt, program, file, input);
-    if count == 0 {
-        return end(rt, program, drill, out);
-    }
-    let fed = drill.feed(&input[..count], out);
-    let length = fed.length;
+    let fed = if count == 0 {
+        drill.finish(out)
+    } else {
+        drill.feed(&input[..count], out)
+    };
     let next = fed.drill;
-    let printed = print(rt, program, true, &out[..length]);
-    Turn {
-        drill: next,
-        more: printed,
-        printed,
+    if !print(rt, program, true, &out[..fed.length]) {
+        return ControlFlow::Break(None);
+    }
+    if count == 0 {
+        return ControlFlow::Break(Some(next));
+    }
+    ControlFlow::Continue(next)
+}
+
+// The drill after all moves, where every line was printed.
+fn run(rt: &HostRuntime, program: &[u8], file: &mut impl Read, start: Drill) -> Option<Drill> {
+    let mut input = [0; READ_LENGTH];
+    let mut out = program_files::text_room();
+    let end = turns(start, |drill| {
+        read_on(rt, program, file, drill, &mut input, &mut out)
+    });
+    match end {
+        ControlFlow::Break(last) => last,
+        ControlFlow::Continue(drill) => Some(drill),
     }
 }
 
-// A proved loop has to end, and nothing says that the input does: so the turns are counted, up to a number that no run uses up.
-fn run(rt: &HostRuntime, program: &[u8], file: &mut impl Read, start: Drill) -> Turn {
-    let mut space = input_room();
-    let input: &mut [u8] = &mut space;
-    let mut room = program_files::text_room();
-    let out: &mut [u8] = &mut room;
-    let mut drill = start;
-    for _ in 0..u64::MAX {
-        let turn = read_on(rt, program, file, drill, input, out);
-        if !turn.more {
-            return turn;
-        }
-        drill = turn.drill;
-    }
-    Turn {
-        drill,
-        more: true,
-        printed: true,
-    }
-}
-
-// Runs the moves in a file under a set; a refused set is named instead. Answers the refusal.
-pub fn drill(rt: &HostRuntime, program: &[u8], set: &[u8], file: &mut impl Read) -> u8
-    ensures { result ≡ (read_set set.now).refusal }
+// Runs the moves in a file under a set; a refused set is named instead.
+pub fn drill(
+    rt: &HostRuntime,
+    program: &[u8],
+    set: &[u8],
+    file: &mut impl Read,
+) -> Result<(), Refusal>
+    ensures { number_of result ≡ (read_set set.now).refusal }
 {
-    let result = program_files::read_plan(rt, program, set);
-    let plan = result.plan;
-    if result.refusal == 0 {
+    with_plan(rt, program, set, |plan| {
         run(rt, program, file, Drill::start(plan));
-    }
-    result.refusal
+    })
 }
 
 // One line more, by the master that the moves left.
-fn print_why(rt: &HostRuntime, program: &[u8], turn: Turn, out: &mut [u8]) {
-    let drill = turn.drill;
-    let world = drill.world;
-    let master = world.master;
-    let plan = drill.plan;
-    let end = append_why(out, 0, explain(plan, master));
-    let length = below(&out[..], end);
-    print(rt, program, turn.printed, &out[..length]);
-}
-
-fn run_and_explain(rt: &HostRuntime, program: &[u8], file: &mut impl Read, plan: Plan) {
-    let turn = run(rt, program, file, Drill::start(plan));
+fn print_why(rt: &HostRuntime, program: &[u8], plan: Plan, drill: Drill) {
     let mut room = program_files::text_room();
-    let out: &mut [u8] = &mut room;
-    print_why(rt, program, turn, out);
+    let mut out = Writer::new(&mut room);
+    append_why(&mut out, explain(plan, drill.world.master));
+    print(rt, program, true, out.written());
 }
 
 // The same as `drill`, and why the master is awake.
-pub fn why(rt: &HostRuntime, program: &[u8], set: &[u8], file: &mut impl Read) -> u8
-    ensures { result ≡ (read_set set.now).refusal }
+pub fn why(
+    rt: &HostRuntime,
+    program: &[u8],
+    set: &[u8],
+    file: &mut impl Read,
+) -> Result<(), Refusal>
+    ensures { number_of result ≡ (read_set set.now).refusal }
 {
-    let result = program_files::read_plan(rt, program, set);
-    let plan = result.plan;
-    if result.refusal == 0 {
-        run_and_explain(rt, program, file, plan);
-    }
-    result.refusal
+    with_plan(rt, program, set, |plan| {
+        if let Some(drill) = run(rt, program, file, Drill::start(plan)) {
+            print_why(rt, program, plan, drill);
+        }
+    })
 }

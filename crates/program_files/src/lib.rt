@@ -2,31 +2,27 @@
 // file holds and whether a write succeeds is outside any promise, so of reading only the count is promised.
 #![tactic(auto)]
 
-ghost use Rattle.std.specs.Prelude.{ℕ, List, ◌≡◌, false, length, replicate};
+ghost use Rattle.std.specs.Prelude.{ℕ, List, ◌≡◌, false, length, replicate, IfSome, IsErr, MatchResult};
+ghost use Rattle.std.specs.Str.{IsUtf8};
+ghost use Rattle.base_refusals.specs.Numbers.{number_of};
 ghost use Rattle.base_text.specs.Text.{Counts};
-ghost use Rattle.set_reader.specs.Read.{read_set};
+ghost use Rattle.set_reader.specs.Read.{read_told, read_set};
 
 mod words;
 
-use base_text::{append, append_decimal, below};
+use base_refusals::Refusal;
+use base_text::Writer;
 use program_arguments::Invocation;
 use set_plan::Plan;
-use set_reader::ReadResult;
 use std::env::{Env, FillError};
 use std::fs::File;
 use std::io;
 use std::io::Read;
+use std::ops::ControlFlow;
 use words::words_of;
 
 // EILSEQ of Linux. The library opens files whose names are UTF-8.
 const NO_TEXT: i32 = 84;
-
-// How many bytes were read, and whether none failed to be.
-#[derive(Clone, Copy)]
-pub struct FileRead {
-    pub whole: bool,
-    pub count: usize,
-}
 
 // Room for the longest set, and a byte more that tells a longer file.
 pub fn set_room() -> [u8; 1537]
@@ -51,24 +47,16 @@ pub fn text_room() -> [u8; 65536]
 
 // How many arguments there are, the program's own name the first.
 pub fn argument_count(rt: &HostRuntime) -> usize {
-    let mut count: usize = 0;
-    for i in 0..usize::MAX {
-        match rt.arg(i, &mut []) {
-            Err(FillError::NotPresent) => break,
-            _ => count = i + 1,
-        }
-    }
-    count
+    (0..usize::MAX)
+        .position(|i| matches!(rt.arg(i, &mut []), Err(FillError::NotPresent)))
+        .unwrap_or(usize::MAX)
 }
 
 // An argument at the front of a buffer, and its length: 0 where there is none, or where it is longer than the buffer.
 pub fn argument(rt: &HostRuntime, index: usize, buffer: &mut [u8]) -> usize
     ensures { Counts result buffer.new }
 {
-    match rt.arg(index, buffer) {
-        Ok(length) => length,
-        Err(_) => 0,
-    }
+    rt.arg(index, buffer).unwrap_or(0)
 }
 
 // Writes on standard error. A write that fails there is told nowhere.
@@ -79,19 +67,20 @@ fn say(rt: &HostRuntime, text: &[u8]) {
 // A line on standard error, right after the call that failed: the program, what it is about, and the system's words.
 fn fail(rt: &HostRuntime, program: &[u8], what: &[u8], error: io::Error) {
     let mut line = text_room();
-    let a = append(&mut line, 0, program);
-    let b = append(&mut line, a, b": ");
-    let end = append(&mut line, b, what);
-    let length = below(&line, end);
+    let mut text = Writer::new(&mut line);
+    text.append(program);
+    text.append(b": ");
+    text.append(what);
     let mut words = [0u8; 256];
     let words_length = words_of(error, &mut words);
-    say(rt, &line[..length]);
+    say(rt, text.written());
     say(rt, b": ");
     say(rt, &words[..words_length]);
     say(rt, b"\n");
 }
 
-// Prints a text if all before it was printed, and tells whether all is. So a write that fails is told once, and is the last.
+// Prints a text if all before it was printed, and tells whether all is. So a write that fails is told once, and is the last. The flag
+// stays: `print`'s clause is about it.
 pub fn print(rt: &HostRuntime, program: &[u8], before: bool, text: &[u8]) -> bool
     ensures { before ≡ false → result ≡ false }
 {
@@ -117,52 +106,44 @@ pub fn read_some(rt: &HostRuntime, program: &[u8], file: &mut impl Read, buffer:
     }
 }
 
-// How many bytes stand at the front of a buffer, and why there are no more: it is full, the input ended, or a read failed.
+// A read that failed, and how many bytes came before it.
 #[derive(Drop)]
-struct Filled {
+struct Failed {
     count: usize,
-    end: io::Result<()>,
+    error: io::Error,
 }
 
-fn fill(file: &mut impl Read, buffer: &mut [u8]) -> Filled
-    ensures { Counts result.count buffer.new }
+// Reads until a buffer is full or the input ends, and tells how many bytes stand at its front. A read gives as many as it likes, so the
+// loop counts bytes and goes over no items.
+fn fill(file: &mut impl Read, buffer: &mut [u8]) -> Result<usize, Failed>
+    ensures { MatchResult result (λ count. Counts count buffer.new) (λ failed. Counts failed.count buffer.new) }
 {
     let mut count: usize = 0;
     while count < buffer.len() {
         match file.read(&mut buffer[count..]) {
             Ok(0) => break,
             Ok(more) => count += more,
-            Err(error) => {
-                return Filled {
-                    count,
-                    end: Err(error),
-                };
-            }
+            Err(error) => return Err(Failed { count, error }),
         }
     }
-    Filled { count, end: Ok(()) }
+    Ok(count)
 }
 
-// Reads until a buffer is full or the input ends.
+// Reads until a buffer is full or the input ends. An error is told, and has how many bytes came before it.
 pub fn read_full(
     rt: &HostRuntime,
     program: &[u8],
     what: &[u8],
     file: &mut impl Read,
     buffer: &mut [u8],
-) -> FileRead
-    ensures { Counts result.count buffer.new }
+) -> Result<usize, usize>
+    ensures { MatchResult result (λ count. Counts count buffer.new) (λ count. Counts count buffer.new) }
 {
-    let filled = fill(file, buffer);
-    let count = filled.count;
-    match filled.end {
-        Ok(()) => FileRead { whole: true, count },
-        Err(error) => {
+    match fill(file, buffer) {
+        Ok(count) => Ok(count),
+        Err(Failed { count, error }) => {
             fail(rt, program, what, error);
-            FileRead {
-                whole: false,
-                count,
-            }
+            Err(count)
         }
     }
 }
@@ -171,52 +152,60 @@ pub fn read_full(
 pub fn read_input(rt: &HostRuntime, buffer: &mut [u8]) -> usize
     ensures { Counts result buffer.new }
 {
-    let filled = fill(&mut rt.stdin(), buffer);
-    filled.count
+    match fill(&mut rt.stdin(), buffer) {
+        Ok(count) => count,
+        Err(failed) => failed.count,
+    }
 }
 
 // Opens a file for reading. A name that is no UTF-8 can't be opened.
-pub fn open(rt: &HostRuntime, name: &[u8]) -> io::Result<File> {
+pub fn open(rt: &HostRuntime, name: &[u8]) -> io::Result<File>
+    ensures { (IsUtf8 name.now → ⊥) → IsErr result }
+{
     match str::from_utf8(name) {
         Ok(path) => File::open(rt, path),
         Err(_) => Err(io::Error::from_raw_os_error(NO_TEXT)),
     }
 }
 
-// Reads a file into a buffer as far as it has room.
-pub fn read_file(rt: &HostRuntime, program: &[u8], name: &[u8], buffer: &mut [u8]) -> FileRead
-    ensures { Counts result.count buffer.new }
+// Reads a file into a buffer as far as it has room. An error is told, and has how many bytes came before it.
+pub fn read_file(
+    rt: &HostRuntime,
+    program: &[u8],
+    name: &[u8],
+    buffer: &mut [u8],
+) -> Result<usize, usize>
+    ensures { MatchResult result (λ count. Counts count buffer.new) (λ count. Counts count buffer.new) }
 {
     match open(rt, name) {
         Ok(mut file) => read_full(rt, program, name, &mut file, buffer),
         Err(error) => {
             fail(rt, program, name, error);
-            FileRead {
-                whole: false,
-                count: 0,
-            }
+            Err(0)
         }
     }
 }
 
-fn print_refusal(rt: &HostRuntime, program: &[u8], refusal: u8) {
+fn print_refusal(rt: &HostRuntime, program: &[u8], refusal: Refusal) {
     let mut line = line_room();
-    let a = append(&mut line, 0, b"set ");
-    let b = append_decimal(&mut line, a, refusal as u64);
-    let end = append(&mut line, b, b"\n");
-    let length = below(&line, end);
-    print(rt, program, true, &line[..length]);
+    let mut text = Writer::new(&mut line);
+    text.append(b"set ");
+    text.decimal(u64::from(refusal.number()));
+    text.append(b"\n");
+    print(rt, program, true, text.written());
 }
 
 // The set in a file. One that can't be read is refused as one of a wrong length is.
-fn read_named(rt: &HostRuntime, program: &[u8], name: &[u8], set: &mut [u8]) -> FileRead
-    ensures { Counts result.count set.new }
+fn read_named(rt: &HostRuntime, program: &[u8], name: &[u8], set: &mut [u8]) -> Option<usize>
+    ensures { IfSome result (λ count. Counts count set.new) }
 {
-    let read = read_file(rt, program, name, set);
-    if !read.whole {
-        print_refusal(rt, program, 1);
+    match read_file(rt, program, name, set) {
+        Ok(count) => Some(count),
+        Err(_) => {
+            print_refusal(rt, program, Refusal::WrongSize);
+            None
+        }
     }
-    read
 }
 
 fn print_help(rt: &HostRuntime, program: &[u8], about: &[u8]) {
@@ -231,34 +220,47 @@ fn say_usage(rt: &HostRuntime, program: &[u8]) {
     say(rt, &line[..length]);
 }
 
-// Reads the set that the arguments name. Where that is not whole, all is said, and the program has nothing to do.
-pub fn read_set(rt: &HostRuntime, program: &[u8], about: &[u8], set: &mut [u8]) -> FileRead
-    ensures { Counts result.count set.new }
+// Reads the set that the arguments name. Where there is none, all is said, and the program has nothing to do.
+pub fn read_set(rt: &HostRuntime, program: &[u8], about: &[u8], set: &mut [u8]) -> Option<usize>
+    ensures { IfSome result (λ count. Counts count set.new) }
 {
     let mut room = line_room();
     let length = argument(rt, 1, &mut room);
     let invocation = program_arguments::invocation_of(argument_count(rt), &room[..length]);
     match invocation {
-        Invocation::Default => return read_named(rt, program, b"plan.set", set),
-        Invocation::Named => return read_named(rt, program, &room[..length], set),
-        Invocation::Help => print_help(rt, program, about),
-        Invocation::Usage => say_usage(rt, program),
+        Invocation::Default => read_named(rt, program, b"plan.set", set),
+        Invocation::Named => read_named(rt, program, &room[..length], set),
+        Invocation::Help => {
+            print_help(rt, program, about);
+            None
+        }
+        Invocation::Usage => {
+            say_usage(rt, program);
+            None
+        }
     }
-    FileRead {
-        whole: false,
-        count: 0,
+}
+
+// Runs a program on the bytes of the set that its arguments name.
+pub fn with_set<F: FnOnce(&[u8])>(rt: &HostRuntime, program: &[u8], about: &[u8], run: F)
+    requires { F.IsAlwaysCallable run }
+    ensures { result ≡ tt }
+{
+    let mut set = set_room();
+    if let Some(count) = read_set(rt, program, about, &mut set) {
+        run(&set[..count]);
     }
 }
 
 // The plan of a set's bytes. A refused set is named on standard output.
-pub fn read_plan(rt: &HostRuntime, program: &[u8], set: &[u8]) -> ReadResult
-    ensures { result ≡ read_set set.now }
+pub fn read_plan(rt: &HostRuntime, program: &[u8], set: &[u8]) -> Result<Plan, Refusal>
+    ensures { read_told result ≡ read_set set.now }
 {
-    let result = set_reader::read(set);
-    if !(result.refusal == 0) {
-        print_refusal(rt, program, result.refusal);
+    let read = set_reader::read(set);
+    if let Err(refusal) = read {
+        print_refusal(rt, program, refusal);
     }
-    result
+    read
 }
 
 // The plan of the set in a file, the all-zero record where it is refused: that of some bytes, and no promise can say of which.
@@ -266,7 +268,48 @@ pub fn plan_in(rt: &HostRuntime, program: &[u8], name: &[u8]) -> Plan
     ensures { (bytes : List ℕ) × (result ≡ (read_set bytes).plan) }
 {
     let mut set = set_room();
-    let read = read_file(rt, program, name, &mut set);
-    let result = set_reader::read(&set[..read.count]);
-    result.plan
+    let (Ok(count) | Err(count)) = read_file(rt, program, name, &mut set);
+    match set_reader::read(&set[..count]) {
+        Ok(plan) => plan,
+        Err(_) => Plan::zero(),
+    }
+}
+
+// The plan of the set in a file that a digit names, as 0.set.
+pub fn numbered_plan(rt: &HostRuntime, program: &[u8], number: u64) -> Plan
+    ensures { (bytes : List ℕ) × (result ≡ (read_set bytes).plan) }
+{
+    let digit = b'0' + (number % 10) as u8;
+    plan_in(rt, program, &[digit, b'.', b's', b'e', b't'])
+}
+
+// Runs what a set's plan is for; a refused set is named instead.
+pub fn with_plan<F: FnOnce(Plan)>(
+    rt: &HostRuntime,
+    program: &[u8],
+    set: &[u8],
+    run: F,
+) -> Result<(), Refusal>
+    requires { F.IsAlwaysCallable run }
+    ensures { number_of result ≡ (read_set set.now).refusal }
+{
+    let plan = read_plan(rt, program, set)?;
+    run(plan);
+    Ok(())
+}
+
+// Takes turns until one is the last. A proved loop has to end, and nothing says that an input does: so the turns are counted, up to a number
+// that no run uses up.
+pub fn turns<S, B, F: FnMut(S) -> ControlFlow<B, S>>(start: S, mut turn: F) -> ControlFlow<B, S>
+    requires { F.IsAlwaysCallable turn }
+    ensures { (last : B) → result ≡ ControlFlow.Break last → (before : F) × (state : S) × F.post before state (ControlFlow.Break last) }
+{
+    let mut state = start;
+    for _ in 0..u64::MAX {
+        match turn(state) {
+            ControlFlow::Continue(next) => state = next,
+            ControlFlow::Break(last) => return ControlFlow::Break(last),
+        }
+    }
+    ControlFlow::Continue(state)
 }

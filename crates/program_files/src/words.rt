@@ -1,31 +1,14 @@
 // The system's words for an error, as C's strerror has them.
 ghost use Rattle.base_text.specs.Text.{Counts};
 
-use base_text::{append, below};
+use base_text::{Writer, below};
 use std::fmt::Write;
-use std::{fmt, io};
-
-// A buffer that a text goes to, as far as there is room, and the index past that text.
-#[derive(Drop)]
-struct Room<'a> {
-    bytes: &'a mut [u8],
-    at: usize,
-}
-
-impl Write for Room<'_> {
-    fn write_str(&mut self, text: &str) -> fmt::Result {
-        self.at = append(self.bytes, self.at, text.as_bytes());
-        Ok(())
-    }
-}
+use std::io;
 
 fn write_error(error: io::Error, buffer: &mut [u8]) -> usize {
-    let mut room = Room {
-        bytes: buffer,
-        at: 0,
-    };
-    let _ = write!(room, "{error}");
-    room.at
+    let mut text = Writer::new(buffer);
+    let _ = write!(text, "{error}");
+    text.at
 }
 
 // The index at which ` (os error 2)` begins, or a text's length. No words of the system have a bracket.

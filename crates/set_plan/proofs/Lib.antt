@@ -1,5 +1,6 @@
 pub mod Accepted
 pub mod Addresses
+pub mod InUse
 pub mod Lengths
 pub mod Lookups
 pub mod RisingRows

@@ -1,4 +1,5 @@
 -- Laws of a ReqId's lookup.
+use Rattle.std.specs.Prelude.{Some, None}
 use Prim.Native.Nat.{ℕ, ◌<◌}
 use mathlib.Core.Path.{◌≡◌, refl, ap, sym, ◌∙◌}
 use mathlib.Core.List.{List}
@@ -11,7 +12,6 @@ use Rattle.base_lists.proofs.AllAny.{and_l, and_r, all_at}
 use Rattle.base_lists.proofs.First.{first_none, first_found, first_holds}
 use Rattle.set_plan.specs.declared.Row.{Row}
 use Rattle.set_plan.specs.declared.Plan.{Plan}
-use Rattle.set_plan.specs.declared.Lookup.{Lookup}
 use Rattle.set_plan.specs.Limits.{max_rows, reqids}
 use Rattle.set_plan.specs.Record.{row_at, rows_used}
 use Rattle.set_plan.specs.Find.{has_reqid, row_among, find_row}
@@ -29,11 +29,11 @@ module _ (rows : List Row) (reqid : ℕ) where
   unfolding has_reqid
   has_not j e = ne_eqb _ _ e
 
-  pub among_none : (n : ℕ) → any_to (has_reqid rows reqid) n ≡ false → row_among rows reqid n ≡ Lookup.Missing
+  pub among_none : (n : ℕ) → any_to (has_reqid rows reqid) n ≡ false → row_among rows reqid n ≡ None
   unfolding row_among
   among_none n e = rw (first_none (has_reqid rows reqid) n e, le-ltb n n (omega arith))
 
-  pub among_found : (n j : ℕ) → j < n → any_to (has_reqid rows reqid) j ≡ false → has_reqid rows reqid j ≡ true → row_among rows reqid n ≡ Lookup.Found (row_at rows j)
+  pub among_found : (n j : ℕ) → j < n → any_to (has_reqid rows reqid) j ≡ false → has_reqid rows reqid j ≡ true → row_among rows reqid n ≡ Some (row_at rows j)
   unfolding row_among
   among_found n j l e h = rw (first_found (has_reqid rows reqid) n j l e h, lt-ltb j n l)
 
@@ -44,7 +44,7 @@ pub record FoundRow (p : Plan) (reqid : ℕ) (r : Row) : Type 0 where
   pub row : row_at p.rows place ≡ r
   pub same : r.reqid ≡ reqid
 
-pub found_row : (p : Plan) (reqid : ℕ) (r : Row) → find_row p reqid ≡ Lookup.Found r → FoundRow p reqid r
+pub found_row : (p : Plan) (reqid : ℕ) (r : Row) → find_row p reqid ≡ Some r → FoundRow p reqid r
 unfolding find_row row_among has_reqid
 found_row p reqid r e = go (ltb j n) refl
   where
@@ -57,10 +57,10 @@ found_row p reqid r e = go (ltb j n) refl
     go : (b : Bool) → ltb (first_to (has_reqid p.rows reqid) (rows_used p.rowcount)) (rows_used p.rowcount) ≡ b → FoundRow p reqid r
     go true q =
         let l : first_to (has_reqid p.rows reqid) (rows_used p.rowcount) < rows_used p.rowcount = ltb-true _ _ q in
-        let w : Lookup.Found (row_at p.rows j) ≡ Lookup.Found r = rw q at e in
+        let w : Some (row_at p.rows j) ≡ Some r = rw q at e in
         let z : row_at p.rows j ≡ r = cc in
         record { place = j; used = l; row = z; same = sym (ap (λ (x : Row). x.reqid) z) ∙ eqb-true _ _ (first_holds (has_reqid p.rows reqid) n l) }
-    go false q = let w : Lookup.Missing ≡ Lookup.Found r = rw q at e in absurd (let z : ◌≡◌ {A = ℕ} 0 1 = cc in omega arith)
+    go false q = let w : None ≡ Some r = rw q at e in absurd (let z : ◌≡◌ {A = ℕ} 0 1 = cc in omega arith)
 
 -- a right row that is not the master's names a node
 row_publisher : (n b : ℕ) (r : Row) → row_after n b r ≡ true → eqb r.publisher master_number ≡ false → r.publisher < n
@@ -73,7 +73,7 @@ row_publisher n b r e z =
     ltb-true _ _ q
 
 -- in an accepted plan each row that was found but the master's names a node
-pub found_publisher : (p : Plan) (reqid : ℕ) (r : Row) → plan_refusal p ≡ 0 → find_row p reqid ≡ Lookup.Found r → eqb r.publisher master_number ≡ false → r.publisher < p.nodecount
+pub found_publisher : (p : Plan) (reqid : ℕ) (r : Row) → plan_refusal p ≡ 0 → find_row p reqid ≡ Some r → eqb r.publisher master_number ≡ false → r.publisher < p.nodecount
 unfolding rows_right row_right
 found_publisher p reqid r ok e n =
     let f = found_row p reqid r e in

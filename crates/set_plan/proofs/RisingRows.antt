@@ -1,4 +1,5 @@
 -- In an accepted plan the search from the ReqId's place down finds the row that the search from the front finds.
+use Rattle.std.specs.Prelude.{Some, None}
 use Prim.Native.Nat.{ℕ, zero, suc, min, ◌+◌, ◌-◌, ◌≤◌, ◌<◌}
 use mathlib.Core.Path.{◌≡◌, refl, ◌∙◌}
 use mathlib.Core.List.{List}
@@ -12,7 +13,6 @@ use Rattle.base_lists.proofs.AllAny.{and_r}
 use Rattle.base_lists.proofs.First.{first_holds, first_past}
 use Rattle.set_plan.specs.declared.Row.{Row}
 use Rattle.set_plan.specs.declared.Plan.{Plan}
-use Rattle.set_plan.specs.declared.Lookup.{Lookup}
 use Rattle.set_plan.specs.Limits.{max_rows}
 use Rattle.set_plan.specs.Record.{row_at, rows_used}
 use Rattle.set_plan.specs.Find.{has_reqid, row_among, find_row, last_among, rising_row}
@@ -22,17 +22,17 @@ use Rattle.set_plan.proofs.Lookups.{has_not}
 use Rattle.set_plan.proofs.Rows.{rises, rises_over}
 
 module _ (rows : List Row) (reqid : ℕ) where
-  last_none : (n : ℕ) → ((i : ℕ) → i < n → has_reqid rows reqid i ≡ false) → last_among rows reqid n ≡ Lookup.Missing
+  last_none : (n : ℕ) → ((i : ℕ) → i < n → has_reqid rows reqid i ≡ false) → last_among rows reqid n ≡ None
   unfolding last_among
   last_none zero h = refl
   last_none (suc n) h = rw (h n (omega arith)) (last_none n (λ i l. h i (omega arith)))
 
-  last_found : (n j : ℕ) → j < n → has_reqid rows reqid j ≡ true → ((i : ℕ) → j < i → i < n → has_reqid rows reqid i ≡ false) → last_among rows reqid n ≡ Lookup.Found (row_at rows j)
+  last_found : (n j : ℕ) → j < n → has_reqid rows reqid j ≡ true → ((i : ℕ) → j < i → i < n → has_reqid rows reqid i ≡ false) → last_among rows reqid n ≡ Some (row_at rows j)
   unfolding last_among
   last_found zero j l e h = absurd (omega arith)
   last_found (suc n) j l e h = at (ℕ_discrete j n) (λ q. last_found n j (omega (arith, l, q)) e (λ i a b. h i a (omega arith)))
     where
-      at : Dec (j ≡ n) → ((j ≡ n → ⊥) → last_among rows reqid n ≡ Lookup.Found (row_at rows j)) → last_among rows reqid (suc n) ≡ Lookup.Found (row_at rows j)
+      at : Dec (j ≡ n) → ((j ≡ n → ⊥) → last_among rows reqid n ≡ Some (row_at rows j)) → last_among rows reqid (suc n) ≡ Some (row_at rows j)
       at (yes q) below = rw (← q, e)
       at (no q) below = rw (h n (omega (arith, l, q)) (omega arith)) (below q)
 

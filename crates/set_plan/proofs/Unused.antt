@@ -26,7 +26,7 @@ node_ext es fs k h =
     (all_ext (differs es k) (differs fs k) k (λ j q. ap₂ (λ (x : NodeEntry) (y : NodeEntry). not (eqb x.address y.address)) (h j (omega arith)) (h k (omega arith))))
 
 -- a row's rule looks at it and at the one before
-row_ext : (n : ℕ) (rs qs : List Row) (k : ℕ) → ((j : ℕ) → j ≤ k → row_at rs j ≡ row_at qs j) → row_right n rs k ≡ row_right n qs k
+pub row_ext : (n : ℕ) (rs qs : List Row) (k : ℕ) → ((j : ℕ) → j ≤ k → row_at rs j ≡ row_at qs j) → row_right n rs k ≡ row_right n qs k
 unfolding row_right reqid_before
 row_ext n rs qs k h = ap₂ (row_after n) (ap (λ (r : Row). if_else (eqb k 0) 0 r.reqid) (h (k - 1) (omega arith))) (h k (omega arith))
 

@@ -1,30 +1,17 @@
 // The row of a ReqId.
-ghost use Rattle.std.specs.Prelude.{◌≡◌, ◌≤◌};
-ghost use Rattle.set_plan.specs.Limits.{max_rows};
-ghost use Rattle.set_plan.specs.Find.{find_row, row_among};
+ghost use Rattle.std.specs.Prelude.{◌≡◌};
+ghost use Rattle.set_plan.specs.Find.{find_row};
 
-use crate::{Lookup, Plan, Row, rules};
-
-fn row_among(rows: [Row; Plan::ROWS], count: usize, reqid: u8) -> Lookup
-    requires { count ≤ max_rows }
-    ensures { result ≡ row_among rows reqid count }
-{
-    let mut j: usize = 0;
-    while j < count {
-        let row = rows[j];
-        if row.reqid == reqid {
-            return Lookup::Found(row);
-        }
-        j += 1;
-    }
-    Lookup::Missing
-}
+use crate::{Plan, Row};
 
 // The first row of a ReqId among the rows in use.
-pub fn find_row(p: Plan, reqid: u8) -> Lookup
+pub fn find_row(p: Plan, reqid: u8) -> Option<Row>
     ensures { result ≡ find_row p reqid }
 {
-    let rows = p.rows;
-    let count = rules::rows_used(p.rowcount);
-    row_among(rows, count, reqid)
+    for row in p.rows_in_use() {
+        if row.reqid == reqid {
+            return Some(*row);
+        }
+    }
+    None
 }

@@ -1,8 +1,8 @@
 // The plan record of a release set. Every value is a number that can hold a wrong one, so that a wrong record is refused and not impossible.
 #![tactic(auto)]
 
-ghost use Rattle.std.specs.Prelude.{◌≡◌};
-ghost use Rattle.set_plan.specs.Record.{zero_plan, entry_at};
+ghost use Rattle.std.specs.Prelude.{◌≡◌, length, take};
+ghost use Rattle.set_plan.specs.Record.{zero_plan, rows_used};
 ghost use Rattle.set_plan.specs.Answering.{is_polled, is_counted, is_variable, accepts};
 ghost use Rattle.set_plan.specs.Profile.{sleeps};
 
@@ -10,9 +10,7 @@ mod find;
 mod rules;
 
 pub use find::find_row;
-pub use rules::{
-    between, entry_right, plan_refusal, profile_right, row_after, table_index, times_right,
-};
+pub use rules::{between, entry_right, judge, profile_right, row_after, table_index, times_right};
 
 #[derive(Clone, Copy)]
 pub struct NodeEntry {
@@ -64,23 +62,6 @@ pub struct Plan {
     pub nodes: [NodeEntry; Plan::NODES],
     pub rowcount: u16,
     pub rows: [Row; Plan::ROWS],
-}
-
-// What a ReqId's lookup finds.
-#[derive(Clone, Copy)]
-pub enum Lookup {
-    Found(Row),
-    Missing,
-}
-
-fn method_of(nodes: [NodeEntry; Plan::NODES], node: u8) -> u8
-    ensures { result ≡ (entry_at nodes node).method }
-{
-    if (node as usize) < Plan::NODES {
-        nodes[node as usize].method
-    } else {
-        0
-    }
 }
 
 // What an unused place of a record holds.
@@ -170,8 +151,16 @@ impl Plan {
     pub fn is_polled(self, node: u8) -> bool
         ensures { result ≡ is_polled self node }
     {
-        let nodes = self.nodes;
-        method_of(nodes, node) == 1
+        self.nodes
+            .get(usize::from(node))
+            .is_some_and(|entry| entry.method == 1)
+    }
+
+    // The rows that the record counts and has places for.
+    pub(crate) fn rows_in_use(&self) -> &[Row]
+        ensures { (result.now ≡ take (rows_used self.now.rowcount) self.now.rows) × (length result.now ≡ rows_used self.now.rowcount) }
+    {
+        &self.rows[..usize::from(self.rowcount).min(Plan::ROWS)]
     }
 
     // The record that a refused read gives.

@@ -1,17 +1,18 @@
 // The rules of a plan record, judged once for reader, writer and every step.
-ghost use Rattle.std.specs.Prelude.{◌≡◌, ◌≤◌, ◌<◌};
+ghost use Rattle.std.specs.Prelude.{◌≡◌, ◌<◌, ℕ, List, length};
 ghost use Rattle.base_lists.specs.Bounded.{all_to, tab};
-ghost use Rattle.set_plan.specs.Limits.{max_nodes, max_rows};
-ghost use Rattle.set_plan.specs.Record.{rows_used};
+ghost use Rattle.base_refusals.specs.Numbers.{number_of};
+ghost use Rattle.set_plan.specs.Record.{entry_at};
 ghost use Rattle.set_plan.specs.Rules.{between, times_right, entry_right, node_right, nodes_right, RowWord, row_after, row_right, rows_right, publishes, all_publish, plan_refusal};
 ghost use Rattle.set_plan.specs.Profile.{profile_right};
 
 use crate::{NodeEntry, Plan, Row, Times};
+use base_refusals::Refusal;
 
 pub fn between(least: u16, most: u16, x: u16) -> bool
     ensures { result ≡ between least most x }
 {
-    (least <= x) & (x <= most)
+    (least..=most).contains(&x)
 }
 
 pub fn profile_right(profile: u8) -> bool
@@ -36,9 +37,8 @@ pub fn times_right(t: Times) -> bool
 pub fn entry_right(e: NodeEntry) -> bool
     ensures { result ≡ entry_right e }
 {
-    (1 <= e.address)
-        & (e.address <= 125)
-        & ((1 <= e.class) & (e.class <= 3))
+    (1..=125).contains(&e.address)
+        & (1..=3).contains(&e.class)
         & (e.method <= 1)
         & (e.reserved == 0)
 }
@@ -50,24 +50,22 @@ pub fn table_index(k: u8) -> usize
     k as usize
 }
 
-// The addresses so far are marked, so that each is looked up once.
-fn each_node_right(nodes: [NodeEntry; Plan::NODES], count: usize) -> bool
-    requires { count ≤ max_nodes }
-    ensures { result ≡ all_to (node_right nodes) count }
+// Whether each node's entry is right and its address none of those before, where entry k is that of node k. The addresses so far are marked,
+// so that each is looked up once. Counted in 32 bits, which a small controller has in one register.
+fn each_node_right<E: Fn(u32) -> NodeEntry>(count: u32, entry: E) -> bool
+    requires { (k : ℕ) → k < count → E.pre entry k }
+    ensures { (nodes : List NodeEntry)
+        → ((k : ℕ) (e : NodeEntry) → k < count → E.post entry k e → e ≡ entry_at nodes k)
+        → result ≡ all_to (node_right nodes) count }
 {
     let mut taken = [false; 256];
-    let mut k: usize = 0;
-    while k < count {
-        let entry = nodes[k];
-        if !entry_right(entry) {
-            return false;
-        }
-        let address = table_index(entry.address);
-        if taken[address] {
+    for k in 0..count {
+        let entry = entry(k);
+        let address = usize::from(entry.address);
+        if !entry_right(entry) || taken[address] {
             return false;
         }
         taken[address] = true;
-        k += 1;
     }
     true
 }
@@ -75,25 +73,15 @@ fn each_node_right(nodes: [NodeEntry; Plan::NODES], count: usize) -> bool
 fn nodes_right(p: Plan) -> bool
     ensures { result ≡ nodes_right p }
 {
-    let count = p.nodecount as usize;
-    let nodes = p.nodes;
-    if count < 1 {
-        return false;
-    }
-    if Plan::NODES < count {
-        return false;
-    }
-    each_node_right(nodes, count)
+    (1..=Plan::NODES).contains(&usize::from(p.nodecount))
+        && each_node_right(u32::from(p.nodecount), |k| p.nodes[k as usize])
 }
 
 // A row as one number, since its four bytes are then loaded at once and judged beside those of other rows.
 fn row_word(row: Row) -> u32
     ensures { RowWord row result }
 {
-    (row.reqid as u32)
-        + 256 * (row.publisher as u32)
-        + 65536 * (row.length as u32)
-        + 16777216 * (row.kind as u32)
+    u32::from_le_bytes([row.reqid, row.publisher, row.length, row.kind])
 }
 
 pub fn row_after(nodecount: u8, before: u8, row: Row) -> bool
@@ -108,20 +96,15 @@ pub fn row_after(nodecount: u8, before: u8, row: Row) -> bool
         & (word / 16777216 <= 3)
 }
 
-// No exit, so that the loop is compiled to vector instructions. The row is passed, not the rows: an array handed over in a loop is
-// copied in each turn.
-fn each_row_right(nodecount: u8, rows: [Row; Plan::ROWS], count: usize) -> bool
-    requires { count ≤ max_rows }
-    ensures { result ≡ all_to (row_right nodecount rows) count }
+// No exit, so that the loop is compiled to vector instructions.
+fn each_row_right(nodecount: u8, rows: &[Row]) -> bool
+    ensures { result ≡ all_to (row_right nodecount rows.now) (length rows.now) }
 {
-    let mut right: bool = true;
-    let mut before: u8 = 0;
-    let mut j: usize = 0;
-    while j < count {
-        let row = rows[j];
-        right = right & row_after(nodecount, before, row);
+    let mut right = true;
+    let mut before = 0;
+    for row in rows {
+        right &= row_after(nodecount, before, *row);
         before = row.reqid;
-        j += 1;
     }
     right
 }
@@ -129,89 +112,38 @@ fn each_row_right(nodecount: u8, rows: [Row; Plan::ROWS], count: usize) -> bool
 fn rows_right(p: Plan) -> bool
     ensures { result ≡ rows_right p }
 {
-    let nodecount = p.nodecount;
-    let count = p.rowcount as usize;
-    let rows = p.rows;
-    if count < 1 {
-        return false;
-    }
-    if Plan::ROWS < count {
-        return false;
-    }
-    each_row_right(nodecount, rows, count)
-}
-
-pub(crate) fn rows_used(count: u16) -> usize
-    ensures { (result ≡ rows_used count) × (result ≤ max_rows) }
-{
-    if (count as usize) < Plan::ROWS {
-        count as usize
-    } else {
-        Plan::ROWS
-    }
+    (1..=Plan::ROWS).contains(&usize::from(p.rowcount))
+        && each_row_right(p.nodecount, p.rows_in_use())
 }
 
 // Which numbers publish one of the rows, in one pass over them.
-fn publishers(rows: [Row; Plan::ROWS], count: usize) -> [bool; 256]
-    requires { count ≤ max_rows }
-    ensures { result ≡ tab 256 (publishes rows count) }
+fn publishers(rows: &[Row]) -> [bool; 256]
+    ensures { result ≡ tab 256 (publishes rows.now (length rows.now)) }
 {
     let mut seen = [false; 256];
-    let mut j: usize = 0;
-    while j < count {
-        let k = table_index(rows[j].publisher);
-        seen[k] = true;
-        j += 1;
+    for row in rows {
+        seen[usize::from(row.publisher)] = true;
     }
     seen
-}
-
-fn each_publishes(rows: [Row; Plan::ROWS], count: usize, nodecount: u8) -> bool
-    requires { count ≤ max_rows }
-    ensures { result ≡ all_to (publishes rows count) nodecount }
-{
-    let seen = publishers(rows, count);
-    let mut k: u8 = 0;
-    while k < nodecount {
-        if !seen[k as usize] {
-            return false;
-        }
-        k += 1;
-    }
-    true
 }
 
 fn all_publish(p: Plan) -> bool
     ensures { result ≡ all_publish p }
 {
-    let nodecount = p.nodecount;
-    let rows = p.rows;
-    let count = rows_used(p.rowcount);
-    each_publishes(rows, count, nodecount)
+    let seen = publishers(p.rows_in_use());
+    seen[..usize::from(p.nodecount)].iter().all(|seen| *seen)
 }
 
-// The number of the first of the rules 3 to 8 that a record breaks, 0 where it keeps them.
-pub fn plan_refusal(p: Plan) -> u8
-    ensures { result ≡ plan_refusal p }
+// The first of the rules 3 to 8 that a record breaks.
+#[tactic(auto, unfolding(crate::specs::Rules::plan_refusal))]
+pub fn judge(p: Plan) -> Result<(), Refusal>
+    ensures { number_of result ≡ plan_refusal p }
 {
-    if !profile_right(p.profile) {
-        return 3;
-    }
-    if p.revision == 0 {
-        return 4;
-    }
     let times = p.times;
-    if !times_right(times) {
-        return 5;
-    }
-    if !nodes_right(p) {
-        return 6;
-    }
-    if !rows_right(p) {
-        return 7;
-    }
-    if !all_publish(p) {
-        return 8;
-    }
-    0
+    Refusal::WrongBlock.unless(profile_right(p.profile))?;
+    Refusal::WrongRevision.unless(p.revision != 0)?;
+    Refusal::WrongTime.unless(times_right(times))?;
+    Refusal::WrongNode.unless(nodes_right(p))?;
+    Refusal::WrongRow.unless(rows_right(p))?;
+    Refusal::NoRowOfNode.unless(all_publish(p))
 }

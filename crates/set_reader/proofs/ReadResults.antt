@@ -1,6 +1,6 @@
 -- The result of a read, and what it leaves in a buffer, by what its two judgements give.
 use Prim.Native.Nat.{ℕ, ◌≤◌, ◌<◌}
-use mathlib.Core.Path.{◌≡◌, refl, sym, ◌∙◌}
+use mathlib.Core.Path.{◌≡◌, refl, sym, ap, ◌∙◌}
 use mathlib.Core.List.{List}
 use mathlib.Core.Bool.{Bool, true, false}
 use lib.ListN.{length}
@@ -20,10 +20,10 @@ use Rattle.set_plan.specs.Record.{zero_plan}
 use Rattle.set_record.specs.Record.{record_of, record_bytes, record_written}
 use Rattle.set_record.proofs.Records.{record_front, record_whole}
 use Rattle.set_record.proofs.RecordTrip.{record_back}
-use Rattle.set_reader.specs.declared.ReadResult.{ReadResult}
+use Rattle.set_reader.specs.Read.{ReadResult}
 use Rattle.set_reader.specs.Layout.{entry_of, entries_of, rowcount_of, row_of, rows_of, plan_of}
 use Rattle.set_reader.specs.Rules.{length_right, types_right, shape_rules, content_rules}
-use Rattle.set_reader.specs.Read.{set_refusal, read_set, record_refusal}
+use Rattle.set_reader.specs.Read.{set_refusal, refused, read_set, record_refusal}
 
 module _ (s : List ℕ) where
   pub length_kept : first_broken 1 (shape_rules s) ≡ 0 → length_right s ≡ true
@@ -84,3 +84,12 @@ module _ (s : List ℕ) where
       go : (b : Bool) → eqb (set_refusal s) 0 ≡ b → if_else (eqb (set_refusal s) 0) 0 (set_refusal s) ≡ (read_set s).refusal
       go true e = rw e
       go false e = rw e
+
+  -- a number that a read gives tells all of it
+  pub told_refused : (n : ℕ) → (n ≡ 0 → ⊥) → n ≡ (read_set s).refusal → refused n ≡ read_set s
+  unfolding read_set
+  told_refused n above e = go (eqb (set_refusal s) 0) refl
+    where
+      go : (b : Bool) → eqb (set_refusal s) 0 ≡ b → refused n ≡ read_set s
+      go true z = absurd (above (rw z at e))
+      go false z = rw z (ap refused (rw z at e))

@@ -3,7 +3,7 @@ use Prim.Native.Nat.{ℕ, zero, suc, ◌+◌, ◌*◌, ◌-◌, ◌/◌, ◌%◌
 use mathlib.Core.Path.{◌≡◌, refl, ap, sym, ◌∙◌}
 use mathlib.Core.List.{List, [], ◌∷◌}
 use mathlib.Core.Bool.{Bool, true, false}
-use lib.ListN.{length, get_or, take, drop, replicate, get_or-eq_default}
+use lib.ListN.{length, get_or, take, drop, replicate, get_or-eq_default, length-take, length-drop}
 use lib.Seq.{sets}
 use lib.Dec.{ltb, eqb}
 use native.Mathlib.Omega.{arith}
@@ -27,20 +27,25 @@ four_zeros (suc (suc zero)) = refl
 four_zeros (suc (suc (suc zero))) = refl
 four_zeros (suc (suc (suc (suc m)))) = refl
 
+-- some bytes from an offset on, then zeros over what they leave of so many
+abbrev filled : List ℕ → ℕ → List ℕ → ℕ → List ℕ
+filled d start used room = sets (sets d start used) (start + length used) (replicate (room - length used) 0)
+
+-- the same of a part of a set, as a run of bytes
+part_put : (start a k n : ℕ) (f : ℕ → ℕ) (s d y : List ℕ) → y ≡ filled d start (take (a + k - a) (drop a s)) n → k ≤ n → a + k ≤ length s → start + n ≤ length d
+    → ((i : ℕ) → i < k → byte s (a + i) ≡ f i) → ((i : ℕ) → k ≤ i → i < n → 0 ≡ f i) → Put start n f d y
+part_put start a k n f s d y e fits within room used none =
+    let same : a + k - a ≡ k = omega arith in
+    let long : length (take k (drop a s)) ≡ k = omega (arith, length-take k (drop a s), length-drop a s) in
+    put_filled start a k n f s d (sets d start (take k (drop a s))) y refl (rw (same, long) at e) fits within room used none
+
 -- the rows of two message blocks, then zeros
-two_parts : (f : ℕ → ℕ) (s : List ℕ) (end : ℕ) (d x y z : List ℕ) → 1536 ≤ length s → 400 ≤ end → end ≤ 508
-    → x ≡ sets d 83 (take (520 + 400 - 520) (drop 520 s)) → y ≡ sets x (83 + 400) (take (1032 + (end - 400) - 1032) (drop 1032 s)) → z ≡ sets y (83 + end) (replicate (508 - end) 0)
-    → 592 ≤ length d → ((i : ℕ) → i < 400 → byte s (520 + i) ≡ f i) → ((i : ℕ) → 400 ≤ i → i < end → byte s (1032 + (i - 400)) ≡ f i) → ((i : ℕ) → end ≤ i → i < 508 → 0 ≡ f i)
-    → Put 83 508 f d z
-two_parts f s end d x y z size a b e e2 w long first second none =
+two_parts : (f : ℕ → ℕ) (s : List ℕ) (more : ℕ) (d x z : List ℕ) → 1536 ≤ length s → more ≤ 108
+    → x ≡ sets d 83 (take (520 + 400 - 520) (drop 520 s)) → z ≡ filled x 483 (take (1032 + more - 1032) (drop 1032 s)) 108 → 592 ≤ length d
+    → ((i : ℕ) → i < 400 → byte s (520 + i) ≡ f i) → ((i : ℕ) → i < more → byte s (1032 + i) ≡ f (400 + i)) → ((i : ℕ) → more ≤ i → i < 108 → 0 ≡ f (400 + i)) → Put 83 508 f d z
+two_parts f s more d x z size a e w long first second none =
     let u : Put 83 400 (λ i. byte s (520 + i)) d x = put_slice 83 520 400 s d x e (omega arith) (omega arith) in
-    let m : 1032 + (end - 400) - 1032 ≡ end - 400 = omega arith in
-    let p : 483 + (end - 400) ≡ 83 + end = omega arith in
-    let r : 108 - (end - 400) ≡ 508 - end = omega arith in
-    let g : Put 483 108 (λ i. f (400 + i)) x z =
-    put_filled 483 1032 (end - 400) 108 (λ i. f (400 + i)) s x y z (rw m at e2) (rw (p, r) w) (omega arith) (omega arith) (omega (arith, u.size))
-    (λ i q. let t : 1032 + (400 + i - 400) ≡ 1032 + i = omega arith in sym (ap (byte s) t) ∙ second (400 + i) (omega arith) (omega arith))
-    (λ i q h. none (400 + i) (omega arith) (omega arith)) in
+    let g : Put 483 108 (λ i. f (400 + i)) x z = part_put 483 1032 more 108 (λ i. f (400 + i)) s x z w a (omega arith) (omega (arith, u.size)) second none in
     put_next 83 400 108 508 f (λ i. f (400 + i)) d x z 483 (put_as 83 400 (λ i. byte s (520 + i)) f d x u first) g refl refl (λ i q. refl)
 
 -- the four bytes of places that are read below a count, the others zero
@@ -87,27 +92,23 @@ module _ (s : List ℕ) (count : ℕ) where
       go (yes l) = row_second i (omega arith) l ∙ get_or-eq_default s 0 (omega arith)
       go (no l) = row_unused i (omega arith) q
 
-  pub entries_put : (end : ℕ) (d x y : List ℕ) → 1024 ≤ length s → end ≡ 4 * min count 16 → x ≡ sets d 19 (take (32 + end - 32) (drop 32 s))
-      → y ≡ sets x (19 + end) (replicate (64 - end) 0) → 592 ≤ length d → Put 19 64 (entry_byte_at (entries_of s count)) d y
-  entries_put end d x y size is e z long =
-      let same : 32 + end - 32 ≡ end = omega arith in
-      put_filled 19 32 end 64 _ s d x y (rw same at e) z (omega arith) (omega arith) (omega arith) (λ i q. sym (entry_used i (omega arith))) (λ i a b. sym (entry_unused i (omega arith) b))
+  pub entries_put : (end : ℕ) (d y : List ℕ) → 1024 ≤ length s → end ≡ 4 * min count 16 → y ≡ filled d 19 (take (32 + end - 32) (drop 32 s)) 64 → 592 ≤ length d
+      → Put 19 64 (entry_byte_at (entries_of s count)) d y
+  entries_put end d y size is e long =
+      part_put 19 32 end 64 _ s d y e (omega arith) (omega arith) (omega arith) (λ i q. sym (entry_used i (omega arith))) (λ i a b. sym (entry_unused i (omega arith) b))
 
-  pub rows_put_short : (end : ℕ) (d x y : List ℕ) → length s ≡ 1024 → end ≡ 4 * min count 100 → x ≡ sets d 83 (take (520 + end - 520) (drop 520 s))
-      → y ≡ sets x (83 + end) (replicate (508 - end) 0) → 592 ≤ length d → Put 83 508 (row_byte_at (rows_of s count)) d y
-  rows_put_short end d x y size is e z long =
-      let same : 520 + end - 520 ≡ end = omega arith in
-      put_filled 83 520 end 508 _ s d x y (rw same at e) z (omega arith) (omega arith) (omega arith) (λ i q. sym (row_first i (omega arith))) (λ i a b. sym (row_short size i (omega arith) b))
+  pub rows_put_short : (end : ℕ) (d y : List ℕ) → length s ≡ 1024 → end ≡ 4 * min count 100 → y ≡ filled d 83 (take (520 + end - 520) (drop 520 s)) 508 → 592 ≤ length d
+      → Put 83 508 (row_byte_at (rows_of s count)) d y
+  rows_put_short end d y size is e long =
+      part_put 83 520 end 508 _ s d y e (omega arith) (omega arith) (omega arith) (λ i q. sym (row_first i (omega arith))) (λ i a b. sym (row_short size i (omega arith) b))
 
-  pub rows_put_long : (first end : ℕ) (d x y z : List ℕ) → 1536 ≤ length s → 100 ≤ count → first ≡ 4 * min count 100 → end ≡ 4 * min count 127
-      → x ≡ sets d 83 (take (520 + first - 520) (drop 520 s)) → y ≡ sets x (83 + first) (take (1032 + (end - first) - 1032) (drop 1032 s))
-      → z ≡ sets y (83 + end) (replicate (508 - end) 0) → 592 ≤ length d → Put 83 508 (row_byte_at (rows_of s count)) d z
-  rows_put_long first end d x y z size many is is2 e e2 w long =
-      let c : first ≡ 400 = omega arith in
-      let a : 400 ≤ end = omega arith in
-      let b : end ≤ 508 = omega arith in
-      two_parts (row_byte_at (rows_of s count)) s end d x y z size a b (rw c at e) (rw c at e2) w long
-      (λ i q. sym (row_first i (omega arith))) (λ i q r. let t : 632 + i ≡ 1032 + (i - 400) = omega arith in sym (row_second i q (omega arith) ∙ ap (byte s) t)) (λ i q r. sym (row_unused i (omega arith) r))
+  pub rows_put_long : (end more : ℕ) (d x z : List ℕ) → 1536 ≤ length s → 100 ≤ count → end ≡ 4 * min count 100 → more ≡ 4 * min count 127 - end
+      → x ≡ sets d 83 (take (520 + end - 520) (drop 520 s)) → z ≡ filled x (83 + end) (take (1032 + more - 1032) (drop 1032 s)) (508 - end) → 592 ≤ length d
+      → Put 83 508 (row_byte_at (rows_of s count)) d z
+  rows_put_long end more d x z size many is is2 e w long =
+      let c : end ≡ 400 = omega arith in
+      two_parts (row_byte_at (rows_of s count)) s more d x z size (omega arith) (rw c at e) (rw c at w) long (λ i q. sym (row_first i (omega arith)))
+      (λ i q. let t : 632 + (400 + i) ≡ 1032 + i = omega arith in sym (row_second (400 + i) (omega arith) (omega arith) ∙ ap (byte s) t)) (λ i q r. sym (row_unused (400 + i) (omega arith) (omega arith)))
 
 -- two message blocks have a hundred rows at least
 pub many : (s : List ℕ) → (length s ≡ 1024 → ⊥) → 100 ≤ rowcount_of s

@@ -13,9 +13,9 @@ use crate::offsets::{
     ENTRIES_AT, FIRST_ROWCOUNT_AT, FIRST_ROWS_AT, NODECOUNT_AT, PROFILE_AT, REVISION_AT,
     SECOND_ROWCOUNT_AT, SECOND_ROWS_AT, SHORT_LENGTH, TIMES_AT,
 };
-use base_bytes::{byte_at, number_at, put, put_zeros};
+use base_bytes::{byte_at, number_at, put};
 use set_plan::Plan;
-use set_record::{least, times_at};
+use set_record::{put_filled, times_at};
 
 fn rowcount_of(s: &[u8]) -> u16
     ensures { result ≡ rowcount_of s.now }
@@ -42,36 +42,30 @@ fn put_entries(s: &[u8], buffer: &mut [u8])
     requires { (length_right s.now ≡ true) × (record_length ≤ length buffer.old) }
     ensures { Put entries_at (4 * max_nodes) (entry_byte_at (entries_of s.now (byte s.now 4))) buffer.old buffer.new }
 {
-    let end = 4 * least(byte_at(s, NODECOUNT_AT) as usize, Plan::NODES);
-    put(
-        buffer,
-        set_record::ENTRIES_AT,
-        &s[ENTRIES_AT..ENTRIES_AT + end],
-    );
-    put_zeros(buffer, set_record::ENTRIES_AT + end, 4 * Plan::NODES - end);
+    let end = 4 * (byte_at(s, NODECOUNT_AT) as usize).min(Plan::NODES);
+    let used = &s[ENTRIES_AT..ENTRIES_AT + end];
+    put_filled(buffer, set_record::ENTRIES_AT, used, 4 * Plan::NODES);
 }
 
 fn put_rows(s: &[u8], count: usize, buffer: &mut [u8])
     requires { (length_right s.now ≡ true) × (count ≡ rowcount_of s.now) × (record_length ≤ length buffer.old) }
     ensures { Put rows_at (4 * max_rows) (row_byte_at (rows_of s.now count)) buffer.old buffer.new }
 {
-    let first = 4 * least(count, Plan::BLOCK_ROWS as usize);
-    put(
-        buffer,
-        set_record::ROWS_AT,
-        &s[FIRST_ROWS_AT..FIRST_ROWS_AT + first],
-    );
+    let end = 4 * count.min(Plan::BLOCK_ROWS as usize);
+    let first = &s[FIRST_ROWS_AT..FIRST_ROWS_AT + end];
     if s.len() == SHORT_LENGTH {
-        put_zeros(buffer, set_record::ROWS_AT + first, 4 * Plan::ROWS - first);
+        put_filled(buffer, set_record::ROWS_AT, first, 4 * Plan::ROWS);
         return;
     }
-    let end = 4 * least(count, Plan::ROWS);
-    put(
+    let more = 4 * count.min(Plan::ROWS) - end;
+    let second = &s[SECOND_ROWS_AT..SECOND_ROWS_AT + more];
+    put(buffer, set_record::ROWS_AT, first);
+    put_filled(
         buffer,
-        set_record::ROWS_AT + first,
-        &s[SECOND_ROWS_AT..SECOND_ROWS_AT + (end - first)],
+        set_record::ROWS_AT + end,
+        second,
+        4 * Plan::ROWS - end,
     );
-    put_zeros(buffer, set_record::ROWS_AT + end, 4 * Plan::ROWS - end);
 }
 
 pub(crate) fn put_record(s: &[u8], buffer: &mut [u8])

@@ -16,7 +16,7 @@ pub(crate) const NODECOUNT_AT: usize = 4;
 
 pub(crate) const PROFILE_AT: usize = 5;
 
-pub(crate) const TIMES_AT: u8 = 6;
+pub const TIMES_AT: u8 = 6;
 
 pub const ENTRIES_AT: usize = 32;
 

@@ -2,6 +2,7 @@
 ghost use Rattle.std.specs.Prelude.{◌≡◌, true, ◌≤◌, ◌<◌};
 ghost use Rattle.base_lists.specs.Bounded.{all_to, if_else};
 ghost use Rattle.base_lists.specs.FirstBroken.{first_broken};
+ghost use Rattle.base_refusals.specs.Numbers.{number, number_of};
 ghost use Rattle.set_plan.specs.Profile.{profile_right};
 ghost use Rattle.set_plan.specs.Rules.{between, plan_refusal};
 ghost use Rattle.base_bytes.specs.Limits.{block_length};
@@ -13,6 +14,7 @@ use crate::offsets::{
     ROWCOUNT_AT, ROWS_AT, SECOND_ROWCOUNT_AT, SHORT_LENGTH,
 };
 use base_bytes::{BLOCK_LENGTH, are_zero, block_check, byte_at, number_at};
+use base_refusals::Refusal;
 use set_plan::{Plan, between};
 
 fn length_right(s: &[u8]) -> bool
@@ -28,7 +30,8 @@ fn check_right(s: &[u8], b: usize) -> bool
     block_check(s, BLOCK_LENGTH * b) == number_at(s, BLOCK_LENGTH * b + CHECK_AT)
 }
 
-// The first wrong check ends it: checks are most of a read's time.
+// The first wrong check ends it: checks are most of a read's time. Block by block, here and below, since firmware/retarget.py refuses a closure
+// that holds a slice.
 fn checks_right(s: &[u8]) -> bool
     ensures { result ≡ checks_right s.now }
 {
@@ -64,19 +67,13 @@ fn types_right(s: &[u8]) -> bool
 }
 
 // Rules 1 to 3, which need no record.
-pub(crate) fn shape_refusal(s: &[u8]) -> u8
-    ensures { result ≡ first_broken 1 (shape_rules s.now) }
+#[tactic(auto, unfolding(crate::specs::Rules::shape_rules))]
+pub(crate) fn judge_shape(s: &[u8]) -> Result<(), Refusal>
+    ensures { number_of result ≡ first_broken 1 (shape_rules s.now) }
 {
-    if !length_right(s) {
-        return 1;
-    }
-    if !checks_right(s) {
-        return 2;
-    }
-    if !(types_right(s) & set_plan::profile_right(byte_at(s, PROFILE_AT))) {
-        return 3;
-    }
-    0
+    Refusal::WrongSize.unless(length_right(s))?;
+    Refusal::WrongCheck.unless(checks_right(s))?;
+    Refusal::WrongBlock.unless(types_right(s) & set_plan::profile_right(byte_at(s, PROFILE_AT)))
 }
 
 fn revision_same(s: &[u8], b: usize) -> bool
@@ -107,7 +104,7 @@ fn filler_start(first: usize, count: u8) -> usize
     requires { first ≤ 510 }
     ensures { FillerStart first count result }
 {
-    set_record::least(first + 4 * (count as usize), CHECK_AT)
+    (first + 4 * (count as usize)).min(CHECK_AT)
 }
 
 fn plan_filler(s: &[u8]) -> bool
@@ -137,33 +134,27 @@ fn filler_right(s: &[u8]) -> bool
     }
 }
 
-// The plan's refusal where a block's row count is wrong: 4 to 6 come before 7.
-fn with_wrong_count(refusal: u8) -> u8
-    ensures { result ≡ if_else (between 4 6 refusal) refusal 7 }
+// The refusal where a block's row count is wrong: the plan's own 4 to 6 come before 7.
+fn with_wrong_count(judged: Result<(), Refusal>) -> Refusal
+    ensures { number result ≡ if_else (between 4 6 (number_of judged)) (number_of judged) 7 }
 {
-    if between(4, 6, refusal as u16) {
-        refusal
-    } else {
-        7
+    match judged {
+        Err(Refusal::WrongRevision) => Refusal::WrongRevision,
+        Err(Refusal::WrongTime) => Refusal::WrongTime,
+        Err(Refusal::WrongNode) => Refusal::WrongNode,
+        _ => Refusal::WrongRow,
     }
 }
 
-// Rules 4 to 9, of the bytes and their record, of which the refusal by the plan's rules is known.
-pub(crate) fn content_refusal(s: &[u8], refusal: u8) -> u8
-    requires { (length_right s.now ≡ true) × (profile_right (plan_of s.now).profile ≡ true) × (refusal ≡ plan_refusal (plan_of s.now)) }
-    ensures { result ≡ first_broken 4 (content_rules s.now (plan_of s.now)) }
+// Rules 4 to 9, of the bytes and their record, of which the judgement by the plan's rules is known.
+pub(crate) fn judge_content(s: &[u8], judged: Result<(), Refusal>) -> Result<(), Refusal>
+    requires { (length_right s.now ≡ true) × (profile_right (plan_of s.now).profile ≡ true) × (number_of judged ≡ plan_refusal (plan_of s.now)) }
+    ensures { number_of result ≡ first_broken 4 (content_rules s.now (plan_of s.now)) }
 {
-    if !revisions_same(s) {
-        return 4;
-    }
+    Refusal::WrongRevision.unless(revisions_same(s))?;
     if !counts_right(s) {
-        return with_wrong_count(refusal);
+        return Err(with_wrong_count(judged));
     }
-    if refusal != 0 {
-        return refusal;
-    }
-    if !filler_right(s) {
-        return 9;
-    }
-    0
+    judged?;
+    Refusal::Filler.unless(filler_right(s))
 }

@@ -1,12 +1,19 @@
 -- Places of four bytes each: the entries and the rows.
-use Prim.Native.Nat.{ℕ, zero, suc, ◌+◌, ◌*◌, ◌/◌, ◌%◌, ◌<◌}
+use Prim.Native.Nat.{ℕ, zero, suc, ◌+◌, ◌*◌, ◌-◌, ◌/◌, ◌%◌, ◌≤◌, ◌<◌}
 use mathlib.Core.Path.{◌≡◌, refl, ap, ap₂, sym, ◌∙◌}
-use mathlib.Core.List.{List}
-use lib.ListN.{get_or}
+use mathlib.Core.List.{List, [], ◌∷◌, ◌++◌}
+use lib.ListN.{length, get_or, get_or-append}
+use lib.Seq.{sets}
 use native.Mathlib.Omega.{arith}
+use native.Mathlib.Decide.{dec_lt}
+use Rattle.std.specs.Int.{w16, to_be_bytes}
+use Rattle.std.specs.List.{flat_map}
+use Rattle.std.proofs.lemmas.List.{get_or-append_right}
 use Rattle.base_lists.specs.Bounded.{tab}
 use Rattle.base_lists.proofs.Tables.{get_or-tab}
-use Rattle.base_bytes.specs.Bytes.{byte}
+use Rattle.base_bytes.specs.Bytes.{byte, two_bytes}
+use Rattle.base_bytes.specs.Puts.{Put}
+use Rattle.base_bytes.proofs.Puts.{put_as, put_list}
 use Rattle.set_plan.specs.declared.NodeEntry.{NodeEntry}
 use Rattle.set_plan.specs.declared.Row.{Row}
 use Rattle.set_plan.specs.Record.{entry_at, row_at}
@@ -18,6 +25,40 @@ four_byte s o (suc zero) q = refl
 four_byte s o (suc (suc zero)) q = refl
 four_byte s o (suc (suc (suc zero))) q = refl
 four_byte s o (suc (suc (suc (suc i)))) q = absurd (omega arith)
+
+-- places joined into one run of bytes
+joined : (ys : List (List ℕ)) (place : ℕ → List ℕ) → ((k : ℕ) → k < length ys → get_or ys k [] ≡ place k) → ((k : ℕ) → k < length ys → length (place k) ≡ 4)
+    → (i : ℕ) → i < 4 * length ys → byte (flat_map (λ y. y) ys) i ≡ four_byte_at place i
+joined [] place is four i h = absurd (omega arith)
+joined (y ∷ ys) place is four i h =
+    go (dec_lt i 4) (is 0 (omega arith)) (four 0 (omega arith))
+    (λ l. joined ys (λ k. place (suc k)) (λ k a. is (suc k) (omega arith)) (λ k a. four (suc k) (omega arith)) (i - 4) (omega arith))
+  where
+    go : Dec (i < 4) → y ≡ place 0 → length (place 0) ≡ 4 → (4 ≤ i → byte (flat_map (λ y. y) ys) (i - 4) ≡ four_byte_at (λ k. place (suc k)) (i - 4))
+        → byte (y ++ flat_map (λ y. y) ys) i ≡ four_byte_at place i
+    go (yes l) e f later =
+        let u : i / 4 ≡ 0 = omega arith in
+        let v : i % 4 ≡ i = omega arith in
+        let n : length y ≡ 4 = ap length e ∙ f in
+        get_or-append y (flat_map (λ y. y) ys) 0 i (omega arith) ∙ rw (u, v, e)
+    go (no l) e f later =
+        let u : suc ((i - 4) / 4) ≡ i / 4 = omega arith in
+        let v : (i - 4) % 4 ≡ i % 4 = omega arith in
+        let n : length y ≡ 4 = ap length e ∙ f in
+        get_or-append_right y (flat_map (λ y. y) ys) 4 i 0 n (omega arith) ∙ later (omega arith) ∙ rw (u, v)
+
+-- and put into a buffer
+pub four_put : (start n : ℕ) (place : ℕ → List ℕ) (ys : List (List ℕ)) (bytes d x : List ℕ) → length ys ≡ n → ((k : ℕ) → k < n → get_or ys k [] ≡ place k) → ((k : ℕ) → k < n → length (place k) ≡ 4)
+    → bytes ≡ flat_map (λ y. y) ys → length bytes ≡ 4 * n → x ≡ sets d start bytes → start + 4 * n ≤ length d → Put start (4 * n) (four_byte_at place) d x
+four_put start n place ys bytes d x size is four e long put fits =
+    put_as start (4 * n) (byte bytes) (four_byte_at place) d x (rw long at (put_list start bytes d x put (omega arith)))
+    (λ i h. ap (λ b. byte b i) e ∙ joined ys place (λ k a. is k (omega arith)) (λ k a. four k (omega arith)) i (omega arith))
+
+-- the two bytes of a number
+pub two_be : (x : ℕ) → x < 65536 → to_be_bytes w16 x ≡ two_bytes x
+two_be x h =
+    let u : x / 256 % 256 ≡ x / 256 = omega arith in
+    ap (λ a. a ∷ x % 256 ∷ []) u
 
 -- of an entry and of a row that were read
 pub entry_byte : (s : List ℕ) (o i : ℕ) → i < 4 → byte (entry_bytes (entry_from s o)) i ≡ byte s (o + i)

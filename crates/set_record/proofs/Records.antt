@@ -1,5 +1,5 @@
 -- The record of bytes: the plan in them where they have its length, else the all-zero record; and the bytes of that one.
-use Prim.Native.Nat.{ℕ, zero, suc, min, ◌-◌, ◌/◌, ◌%◌, ◌≤◌, ◌<◌}
+use Prim.Native.Nat.{ℕ, zero, suc, ◌-◌, ◌/◌, ◌%◌, ◌≤◌, ◌<◌}
 use mathlib.Core.Path.{◌≡◌, refl, ap, sym, ◌∙◌}
 use mathlib.Core.Bool.{Bool, true, false}
 use mathlib.Core.List.{List, ◌++◌, append-nil}
@@ -9,16 +9,12 @@ use lib.Dec.{eqb}
 use native.Mathlib.Omega.{arith}
 use native.Mathlib.Decide.{dec_lt}
 use borrow.Author.Tests.{eq-eqb, ne_eqb, lt-ltb, le-ltb, eqb-true, eqb-false}
-use Rattle.base_lists.specs.Bounded.{first_to}
 use Rattle.base_lists.proofs.Tables.{tab_of, get_or-tab, length-tab}
 use Rattle.base_bytes.proofs.Puts.{put_as, put_whole, put_list, put_zero_run}
 use Rattle.base_bytes.specs.Bytes.{byte}
 use Rattle.set_plan.specs.declared.Plan.{Plan}
-use Rattle.set_plan.specs.declared.Lookup.{Lookup}
 use Rattle.set_plan.specs.Record.{zero_entry, zero_row, zero_plan}
 use Rattle.set_plan.specs.Rules.{plan_refusal}
-use Rattle.set_plan.specs.Answering.{is_polled}
-use Rattle.set_plan.specs.Find.{find_row, row_among, last_among, rising_row}
 use Rattle.set_record.specs.Record.{plan_in, record_of, record_head, record_byte, record_bytes}
 
 pub record_in : (s : List ℕ) → length s ≡ 592 → plan_in s ≡ record_of s
@@ -34,20 +30,6 @@ module _ {A : Type 0} where
   all_same zero k e = refl
   all_same (suc n) zero e = refl
   all_same (suc n) (suc k) e = all_same n k e
-
-pub none_polled : (s : List ℕ) (k : ℕ) → (length s ≡ 592 → ⊥) → false ≡ is_polled (record_of s) k
-unfolding zero_plan
-none_polled s k h = rw (← record_none s h, all_same 16 k zero_entry)
-
-pub no_row : (s : List ℕ) (reqid : ℕ) → (length s ≡ 592 → ⊥) → Lookup.Missing ≡ find_row (record_of s) reqid
-unfolding zero_plan find_row row_among first_to
-no_row s reqid h = rw (← record_none s h)
-
-pub no_rising_row : (s : List ℕ) (reqid : ℕ) → (length s ≡ 592 → ⊥) → Lookup.Missing ≡ rising_row (record_of s) reqid
-unfolding zero_plan rising_row last_among
-no_rising_row s reqid h =
-    let z : min reqid 0 ≡ 0 = omega arith in
-    rw (← record_none s h, z)
 
 -- each byte of the all-zero record is 0
 zero_byte : (o : ℕ) → o < 592 → ◌≡◌ {A = ℕ} 0 (record_byte zero_plan o)

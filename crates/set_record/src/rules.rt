@@ -1,95 +1,82 @@
 // The rules of a plan in the bytes of its packed record: each entry and each row by the rule that judges a record's.
-ghost use Rattle.std.specs.Prelude.{◌≡◌, ◌≤◌, length};
+ghost use Rattle.std.specs.Prelude.{◌≡◌, ◌≤◌};
 ghost use Rattle.base_lists.specs.Bounded.{all_to};
+ghost use Rattle.base_refusals.specs.Numbers.{number_of};
 ghost use Rattle.set_plan.specs.Limits.{max_nodes, max_rows};
-ghost use Rattle.set_plan.specs.Rules.{node_right, plan_refusal};
-ghost use Rattle.set_record.specs.Offsets.{record_length};
-ghost use Rattle.set_record.specs.Record.{entries_in, rows_in, plan_in};
+ghost use Rattle.set_plan.specs.Rules.{between, node_right, nodes_right, plan_refusal};
+ghost use Rattle.set_record.specs.Record.{plan_in};
 ghost use Rattle.set_record.specs.RowsRefusal.{rows_refusal};
 
-use crate::fields;
-use crate::offsets::TIMES_AT;
+use crate::fields::Record;
+use base_refusals::Refusal;
 use set_plan::{Plan, table_index};
 
-fn each_node_right(bytes: &[u8], count: u32) -> bool
-    requires { (length bytes.now ≡ record_length) × (count ≤ max_nodes) }
-    ensures { result ≡ all_to (node_right (entries_in bytes.now)) count }
-{
-    let mut taken = [false; 256];
-    let mut k: u32 = 0;
-    while k < count {
-        let entry = fields::entry_at(bytes, k);
-        if !set_plan::entry_right(entry) {
-            return false;
+impl<'a> Record<'a> {
+    // Not set_plan's rule of the entries, since firmware/retarget.py refuses a closure that holds a slice.
+    fn each_node_right(self, count: u32) -> bool
+        requires { count ≤ max_nodes }
+        ensures { result ≡ all_to (node_right (plan_in self.entry.bytes.now).nodes) count }
+    {
+        let mut taken = [false; 256];
+        for k in 0..count {
+            let entry = self.entry(k);
+            if !set_plan::entry_right(entry) {
+                return false;
+            }
+            let address = table_index(entry.address);
+            if taken[address] {
+                return false;
+            }
+            taken[address] = true;
         }
-        let address = table_index(entry.address);
-        if taken[address] {
-            return false;
-        }
-        taken[address] = true;
-        k += 1;
+        true
     }
-    true
-}
 
-// One pass with an exit: on a 32-bit controller a third fewer instructions than two passes, or than one without exit.
-fn rows_refusal(bytes: &[u8], nodecount: u8, count: u32) -> u8
-    requires { (length bytes.now ≡ record_length) × (count ≤ max_rows) }
-    ensures { result ≡ rows_refusal (rows_in bytes.now) nodecount count }
-{
-    let mut seen = [false; 256];
-    let mut before: u8 = 0;
-    let mut j: u32 = 0;
-    while j < count {
-        let row = fields::row_at(bytes, j);
-        if !set_plan::row_after(nodecount, before, row) {
-            return 7;
+    // One pass with an exit: on a 32-bit controller a third fewer instructions than two passes, or than one without exit.
+    fn judge_rows(self, nodecount: u8, count: u32) -> Result<(), Refusal>
+        requires { count ≤ max_rows }
+        ensures { number_of result ≡ rows_refusal (plan_in self.entry.bytes.now).rows nodecount count }
+    {
+        let mut seen = [false; 256];
+        let mut before = 0;
+        for j in 0..count {
+            let row = self.row(j);
+            if !set_plan::row_after(nodecount, before, row) {
+                return Err(Refusal::WrongRow);
+            }
+            seen[usize::from(row.publisher)] = true;
+            before = row.reqid;
         }
-        let publisher = table_index(row.publisher);
-        seen[publisher] = true;
-        before = row.reqid;
-        j += 1;
-    }
-    let mut k: u8 = 0;
-    while k < nodecount {
-        if !seen[k as usize] {
-            return 8;
+        for k in 0..nodecount {
+            if !seen[k as usize] {
+                return Err(Refusal::NoRowOfNode);
+            }
         }
-        k += 1;
+        Ok(())
     }
-    0
-}
 
-pub(crate) fn refusal_in(bytes: &[u8]) -> u8
-    requires { length bytes.now ≡ record_length }
-    ensures { result ≡ plan_refusal (plan_in bytes.now) }
-{
-    if !set_plan::profile_right(fields::profile_in(bytes)) {
-        return 3;
+    fn nodes_right(self) -> bool
+        ensures { result ≡ nodes_right (plan_in self.entry.bytes.now) }
+    {
+        let count = self.node_count();
+        (1..=Plan::NODES).contains(&usize::from(count)) && self.each_node_right(u32::from(count))
     }
-    if fields::revision_in(bytes) == 0 {
-        return 4;
+
+    fn row_count_right(self) -> bool
+        ensures { result ≡ between 1 max_rows (plan_in self.entry.bytes.now).rowcount }
+    {
+        (1..=Plan::ROWS).contains(&usize::from(self.row_count()))
     }
-    let times = fields::times_at(bytes, TIMES_AT);
-    if !set_plan::times_right(times) {
-        return 5;
+
+    #[tactic(auto, unfolding(set_plan::specs::Rules::plan_refusal, set_plan::specs::Rules::rows_right))]
+    pub(crate) fn judge(self) -> Result<(), Refusal>
+        ensures { number_of result ≡ plan_refusal (plan_in self.entry.bytes.now) }
+    {
+        Refusal::WrongBlock.unless(set_plan::profile_right(self.profile()))?;
+        Refusal::WrongRevision.unless(self.revision() != 0)?;
+        Refusal::WrongTime.unless(set_plan::times_right(self.times()))?;
+        Refusal::WrongNode.unless(self.nodes_right())?;
+        Refusal::WrongRow.unless(self.row_count_right())?;
+        self.judge_rows(self.node_count(), u32::from(self.row_count()))
     }
-    let nodecount = fields::node_count_in(bytes);
-    if nodecount < 1 {
-        return 6;
-    }
-    if Plan::NODES < (nodecount as usize) {
-        return 6;
-    }
-    if !each_node_right(bytes, nodecount as u32) {
-        return 6;
-    }
-    let count = fields::row_count_in(bytes);
-    if count < 1 {
-        return 7;
-    }
-    if Plan::ROWS < (count as usize) {
-        return 7;
-    }
-    rows_refusal(bytes, nodecount, count as u32)
 }

@@ -8,7 +8,7 @@ use Rattle.set_plan.specs.declared.Plan.{Plan}
 use Rattle.set_plan.specs.Answering.{is_counted, is_variable}
 use Rattle.set_plan.specs.Profile.{sleeps}
 use Rattle.set_plan.specs.Record.{entry_at, row_at}
-use Rattle.set_reader.specs.declared.ReadResult.{ReadResult}
+use Rattle.set_reader.specs.Read.{ReadResult}
 use Rattle.base_text.specs.Text.{ascii, decimal, hex_byte}
 
 unfoldable pub time_line : List ℕ → ℕ → List ℕ

@@ -1,267 +1,237 @@
 // A release set in words.
 #![tactic(auto)]
 
-ghost use Rattle.std.specs.Prelude.{◌≤◌};
-ghost use Rattle.base_text.specs.Text.{Appended, Shown, Counts};
+ghost use Rattle.std.specs.Prelude.{◌≡◌, ◌≤◌, length};
+ghost use Rattle.base_refusals.specs.Numbers.{number};
+ghost use Rattle.base_text.specs.Text.{wrote, Shown, Counts};
 ghost use Rattle.set_plan.specs.Limits.{max_nodes, max_rows};
-ghost use Rattle.set_reader.specs.Read.{read_set};
+ghost use Rattle.set_reader.specs.Read.{read_told, read_set};
 ghost use Rattle.set_text.specs.Show.{time_line, wake_up_times_text, times_text, method_text, class_and_method_text, node_line, nodes_text, publisher_text, count_text, length_text, length_and_count_text, row_line, rows_text, revision_line, profile_line, plan_text, content_rule_text, rule_text, refusal_text, result_text};
 
-use base_text::{append, append_decimal, append_hex, below};
+use base_refusals::Refusal;
+use base_text::Writer;
 use set_plan::{NodeEntry, Plan, Row, Times};
-use set_reader::ReadResult;
 
-fn append_time(buffer: &mut [u8], at: usize, label: &[u8], ticks: u16) -> usize
-    ensures { Appended at (time_line label.now ticks) buffer.old buffer.new result }
+#[tactic(auto, using(base_text::proofs::Appends::writing), unfolding(crate::specs::Show::time_line))]
+fn append_time(out: &mut Writer<'_>, label: &[u8], ticks: u16)
+    ensures { out.new ≡ wrote (time_line label.now ticks) out.old }
 {
-    let a = append(buffer, at, label);
-    let b = append(buffer, a, b", ticks: ");
-    let c = append_decimal(buffer, b, ticks as u64);
-    append(buffer, c, b"\n")
+    out.append(label);
+    out.append(b", ticks: ");
+    out.decimal(ticks as u64);
+    out.append(b"\n");
 }
 
-fn append_wake_up_times(buffer: &mut [u8], at: usize, t: Times) -> usize
-    ensures { Appended at (wake_up_times_text t) buffer.old buffer.new result }
+fn append_wake_up_times(out: &mut Writer<'_>, t: Times)
+    ensures { out.new ≡ wrote (wake_up_times_text t) out.old }
 {
-    let a = append_time(buffer, at, b"R wake-up recovery", t.recovery);
-    let b = append_time(buffer, a, b"P wake-up space", t.space);
-    append_time(buffer, b, b"C clock start", t.start)
+    append_time(out, b"R wake-up recovery", t.recovery);
+    append_time(out, b"P wake-up space", t.space);
+    append_time(out, b"C clock start", t.start);
 }
 
-fn append_times(buffer: &mut [u8], at: usize, t: Times) -> usize
-    ensures { Appended at (times_text t) buffer.old buffer.new result }
+fn append_times(out: &mut Writer<'_>, t: Times)
+    ensures { out.new ≡ wrote (times_text t) out.old }
 {
-    let a = append_time(buffer, at, b"W window", t.window);
-    let b = append_time(buffer, a, b"D clock stop", t.stop);
-    let c = append_time(buffer, b, b"S node sleep", t.sleep);
-    let d = append_time(buffer, c, b"E quiet limit", t.quiet);
-    append_wake_up_times(buffer, d, t)
+    append_time(out, b"W window", t.window);
+    append_time(out, b"D clock stop", t.stop);
+    append_time(out, b"S node sleep", t.sleep);
+    append_time(out, b"E quiet limit", t.quiet);
+    append_wake_up_times(out, t);
 }
 
-fn append_method(buffer: &mut [u8], at: usize, method: u8) -> usize
-    ensures { Appended at (method_text method) buffer.old buffer.new result }
+#[tactic(auto, unfolding(crate::specs::Show::method_text))]
+fn append_method(out: &mut Writer<'_>, method: u8)
+    ensures { out.new ≡ wrote (method_text method) out.old }
 {
     if method == 0 {
-        append(buffer, at, b"event-triggered")
+        out.append(b"event-triggered");
     } else {
-        append(buffer, at, b"polled")
+        out.append(b"polled");
     }
 }
 
-fn append_class_and_method(buffer: &mut [u8], at: usize, class: u8, method: u8) -> usize
-    ensures { Appended at (class_and_method_text class method) buffer.old buffer.new result }
+fn append_class_and_method(out: &mut Writer<'_>, class: u8, method: u8)
+    ensures { out.new ≡ wrote (class_and_method_text class method) out.old }
 {
-    let a = append(buffer, at, b" hex, diagnostic class ");
-    let b = append_decimal(buffer, a, class as u64);
-    let c = append(buffer, b, b", ");
-    let d = append_method(buffer, c, method);
-    append(buffer, d, b"\n")
+    out.append(b" hex, diagnostic class ");
+    out.decimal(class as u64);
+    out.append(b", ");
+    append_method(out, method);
+    out.append(b"\n");
 }
 
-fn append_node(buffer: &mut [u8], at: usize, k: usize, e: NodeEntry) -> usize
-    ensures { Appended at (node_line k e) buffer.old buffer.new result }
+#[tactic(auto, using(base_text::proofs::Appends::writing), unfolding(crate::specs::Show::node_line))]
+fn append_node(out: &mut Writer<'_>, k: usize, e: NodeEntry)
+    ensures { out.new ≡ wrote (node_line k e) out.old }
 {
-    let a = append(buffer, at, b"node ");
-    let b = append_decimal(buffer, a, k as u64);
-    let c = append(buffer, b, b": address ");
-    let d = append_hex(buffer, c, e.address);
-    append_class_and_method(buffer, d, e.class, e.method)
+    out.append(b"node ");
+    out.decimal(k as u64);
+    out.append(b": address ");
+    out.hex(e.address);
+    append_class_and_method(out, e.class, e.method);
 }
 
-fn append_nodes(
-    buffer: &mut [u8],
-    at: usize,
-    nodes: [NodeEntry; Plan::NODES],
-    count: usize,
-) -> usize
-    requires { count ≤ max_nodes }
-    ensures { Appended at (nodes_text nodes count) buffer.old buffer.new result }
+#[tactic(auto, using(base_text::proofs::Appends::writing, crate::proofs::Lines::lines))]
+fn append_nodes(out: &mut Writer<'_>, nodes: &[NodeEntry])
+    ensures { out.new ≡ wrote (nodes_text nodes.now (length nodes.now)) out.old }
 {
-    let mut k: usize = 0;
-    let mut next = at;
-    while k < count {
-        let e = nodes[k];
-        next = append_node(buffer, next, k, e);
-        k += 1;
+    for (k, e) in nodes.iter().enumerate() {
+        append_node(out, k, *e);
     }
-    next
 }
 
-fn append_publisher(buffer: &mut [u8], at: usize, publisher: u8) -> usize
-    ensures { Appended at (publisher_text publisher) buffer.old buffer.new result }
+#[tactic(auto, using(base_text::proofs::Appends::writing), unfolding(crate::specs::Show::publisher_text))]
+fn append_publisher(out: &mut Writer<'_>, publisher: u8)
+    ensures { out.new ≡ wrote (publisher_text publisher) out.old }
 {
     if publisher == 255 {
-        append(buffer, at, b"master")
+        out.append(b"master");
     } else {
-        let a = append(buffer, at, b"node ");
-        append_decimal(buffer, a, publisher as u64)
+        out.append(b"node ");
+        out.decimal(publisher as u64);
     }
 }
 
-fn append_count(buffer: &mut [u8], at: usize, counted: bool) -> usize
-    ensures { Appended at (count_text counted) buffer.old buffer.new result }
+#[tactic(auto, unfolding(crate::specs::Show::count_text))]
+fn append_count(out: &mut Writer<'_>, counted: bool)
+    ensures { out.new ≡ wrote (count_text counted) out.old }
 {
     if counted {
-        append(buffer, at, b"with sequence count")
+        out.append(b"with sequence count");
     } else {
-        append(buffer, at, b"without sequence count")
+        out.append(b"without sequence count");
     }
 }
 
-fn append_length(buffer: &mut [u8], at: usize, variable: bool) -> usize
-    ensures { Appended at (length_text variable) buffer.old buffer.new result }
+#[tactic(auto, unfolding(crate::specs::Show::length_text))]
+fn append_length(out: &mut Writer<'_>, variable: bool)
+    ensures { out.new ≡ wrote (length_text variable) out.old }
 {
     if variable {
-        append(buffer, at, b", length up to ")
+        out.append(b", length up to ");
     } else {
-        append(buffer, at, b", length ")
+        out.append(b", length ");
     }
 }
 
-fn append_length_and_count(buffer: &mut [u8], at: usize, row: Row) -> usize
-    ensures { Appended at (length_and_count_text row) buffer.old buffer.new result }
+#[tactic(auto, using(base_text::proofs::Appends::writing), unfolding(crate::specs::Show::length_and_count_text))]
+fn append_length_and_count(out: &mut Writer<'_>, row: Row)
+    ensures { out.new ≡ wrote (length_and_count_text row) out.old }
 {
-    let a = append_length(buffer, at, row.is_variable());
-    let b = append_decimal(buffer, a, row.length as u64);
-    let c = append(buffer, b, b", ");
-    let d = append_count(buffer, c, row.is_counted());
-    append(buffer, d, b"\n")
+    append_length(out, row.is_variable());
+    out.decimal(row.length as u64);
+    out.append(b", ");
+    append_count(out, row.is_counted());
+    out.append(b"\n");
 }
 
-fn append_row(buffer: &mut [u8], at: usize, row: Row) -> usize
-    ensures { Appended at (row_line row) buffer.old buffer.new result }
+fn append_row(out: &mut Writer<'_>, row: Row)
+    ensures { out.new ≡ wrote (row_line row) out.old }
 {
-    let a = append(buffer, at, b"ReqId ");
-    let b = append_decimal(buffer, a, row.reqid as u64);
-    let c = append(buffer, b, b": publisher ");
-    let d = append_publisher(buffer, c, row.publisher);
-    append_length_and_count(buffer, d, row)
+    out.append(b"ReqId ");
+    out.decimal(row.reqid as u64);
+    out.append(b": publisher ");
+    append_publisher(out, row.publisher);
+    append_length_and_count(out, row);
 }
 
-fn append_rows(buffer: &mut [u8], at: usize, rows: [Row; Plan::ROWS], count: usize) -> usize
-    requires { count ≤ max_rows }
-    ensures { Appended at (rows_text rows count) buffer.old buffer.new result }
+// Beside append_nodes: one function that takes a line's function would need a promise about it, longer than this loop.
+#[tactic(auto, using(base_text::proofs::Appends::writing, crate::proofs::Lines::lines))]
+fn append_rows(out: &mut Writer<'_>, rows: &[Row])
+    ensures { out.new ≡ wrote (rows_text rows.now (length rows.now)) out.old }
 {
-    let mut j: usize = 0;
-    let mut next = at;
-    while j < count {
-        let row = rows[j];
-        next = append_row(buffer, next, row);
-        j += 1;
+    for row in rows {
+        append_row(out, *row);
     }
-    next
 }
 
-fn append_revision(buffer: &mut [u8], at: usize, revision: u16) -> usize
-    ensures { Appended at (revision_line revision) buffer.old buffer.new result }
+fn append_revision(out: &mut Writer<'_>, revision: u16)
+    ensures { out.new ≡ wrote (revision_line revision) out.old }
 {
-    let a = append(buffer, at, b"revision ");
-    let b = append_decimal(buffer, a, revision as u64);
-    append(buffer, b, b"\n")
+    out.append(b"revision ");
+    out.decimal(revision as u64);
+    out.append(b"\n");
 }
 
 // A line for panels that never sleep; none for others.
-fn append_profile(buffer: &mut [u8], at: usize, sleeps: bool) -> usize
-    ensures { Appended at (profile_line sleeps) buffer.old buffer.new result }
+#[tactic(auto, using(base_text::proofs::Appends::writing), unfolding(crate::specs::Show::profile_line))]
+fn append_profile(out: &mut Writer<'_>, sleeps: bool)
+    ensures { out.new ≡ wrote (profile_line sleeps) out.old }
 {
-    if sleeps {
-        return at;
+    if !sleeps {
+        out.append(b"profile: the ignition cuts the power, no sleep\n");
     }
-    append(
-        buffer,
-        at,
-        b"profile: the ignition cuts the power, no sleep\n",
-    )
 }
 
-fn append_plan(buffer: &mut [u8], at: usize, p: Plan) -> usize
+#[tactic(auto, using(base_text::proofs::Appends::writing, crate::proofs::Lines::fronts), unfolding(crate::specs::Show::plan_text))]
+fn append_plan(out: &mut Writer<'_>, p: Plan)
     requires { (p.nodecount ≤ max_nodes) × (p.rowcount ≤ max_rows) }
-    ensures { Appended at (plan_text p) buffer.old buffer.new result }
+    ensures { out.new ≡ wrote (plan_text p) out.old }
 {
-    let times = p.times;
-    let nodes = p.nodes;
-    let rows = p.rows;
-    let sleeps = p.sleeps();
-    let a = append_revision(buffer, at, p.revision);
-    let b = append_profile(buffer, a, sleeps);
-    let c = append_times(buffer, b, times);
-    let d = append_nodes(buffer, c, nodes, p.nodecount as usize);
-    append_rows(buffer, d, rows, p.rowcount as usize)
+    append_revision(out, p.revision);
+    append_profile(out, p.sleeps());
+    append_times(out, p.times);
+    append_nodes(out, &p.nodes[..p.nodecount as usize]);
+    append_rows(out, &p.rows[..p.rowcount as usize]);
 }
 
-fn append_content_rule(buffer: &mut [u8], at: usize, number: u8) -> usize
-    ensures { Appended at (content_rule_text number) buffer.old buffer.new result }
+#[tactic(auto, unfolding(crate::specs::Show::content_rule_text))]
+fn append_content_rule(out: &mut Writer<'_>, number: u8)
+    ensures { out.new ≡ wrote (content_rule_text number) out.old }
 {
-    if number == 5 {
-        return append(buffer, at, b"a time breaks its rule");
+    match number {
+        5 => out.append(b"a time breaks its rule"),
+        6 => out.append(b"the number of nodes or a node entry breaks its rule"),
+        7 => out.append(b"a row count or a row breaks its rule"),
+        8 => out.append(b"a node publishes nothing"),
+        _ => out.append(b"filler is not zero"),
     }
-    if number == 6 {
-        return append(
-            buffer,
-            at,
-            b"the number of nodes or a node entry breaks its rule",
-        );
-    }
-    if number == 7 {
-        return append(buffer, at, b"a row count or a row breaks its rule");
-    }
-    if number == 8 {
-        return append(buffer, at, b"a node publishes nothing");
-    }
-    append(buffer, at, b"filler is not zero")
 }
 
-fn append_rule(buffer: &mut [u8], at: usize, number: u8) -> usize
-    ensures { Appended at (rule_text number) buffer.old buffer.new result }
+#[tactic(auto, unfolding(crate::specs::Show::rule_text))]
+fn append_rule(out: &mut Writer<'_>, number: u8)
+    ensures { out.new ≡ wrote (rule_text number) out.old }
 {
-    if number == 1 {
-        return append(buffer, at, b"the length is not 1,024 or 1,536 bytes");
+    match number {
+        1 => out.append(b"the length is not 1,024 or 1,536 bytes"),
+        2 => out.append(b"a block's check differs"),
+        3 => out.append(b"byte 0 or 1 of a block or the profile is wrong"),
+        4 => out.append(b"the revision is 0, or blocks differ in it"),
+        _ => append_content_rule(out, number),
     }
-    if number == 2 {
-        return append(buffer, at, b"a block's check differs");
-    }
-    if number == 3 {
-        return append(
-            buffer,
-            at,
-            b"byte 0 or 1 of a block or the profile is wrong",
-        );
-    }
-    if number == 4 {
-        return append(buffer, at, b"the revision is 0, or blocks differ in it");
-    }
-    append_content_rule(buffer, at, number)
 }
 
-fn append_refusal(buffer: &mut [u8], at: usize, number: u8) -> usize
-    ensures { Appended at (refusal_text number) buffer.old buffer.new result }
+#[tactic(auto, using(base_text::proofs::Appends::writing), unfolding(crate::specs::Show::refusal_text))]
+fn append_refusal(out: &mut Writer<'_>, refusal: Refusal)
+    ensures { out.new ≡ wrote (refusal_text (number refusal)) out.old }
 {
-    let a = append(buffer, at, b"set ");
-    let b = append_decimal(buffer, a, number as u64);
-    let c = append(buffer, b, b"\n");
-    let d = append_rule(buffer, c, number);
-    append(buffer, d, b"\n")
+    let number = refusal.number();
+    out.append(b"set ");
+    out.decimal(u64::from(number));
+    out.append(b"\n");
+    append_rule(out, number);
+    out.append(b"\n");
 }
 
-fn append_result(buffer: &mut [u8], at: usize, res: ReadResult) -> usize
-    requires { (res.plan.nodecount ≤ max_nodes) × (res.plan.rowcount ≤ max_rows) }
-    ensures { Appended at (result_text res) buffer.old buffer.new result }
+#[tactic(auto, unfolding(crate::specs::Show::result_text))]
+fn append_result(out: &mut Writer<'_>, read: Result<Plan, Refusal>)
+    requires { ((read_told read).plan.nodecount ≤ max_nodes) × ((read_told read).plan.rowcount ≤ max_rows) }
+    ensures { out.new ≡ wrote (result_text (read_told read)) out.old }
 {
-    let refusal = res.refusal;
-    let plan = res.plan;
-    if refusal == 0 {
-        append_plan(buffer, at, plan)
-    } else {
-        append_refusal(buffer, at, refusal)
+    match read {
+        Ok(plan) => append_plan(out, plan),
+        Err(refusal) => append_refusal(out, refusal),
     }
 }
 
 // Stores the words for a set's bytes at the front of a buffer, as far as it has room, and gives how many bytes they take there.
+#[tactic(auto, unfolding(base_text::specs::Text::wrote))]
 pub fn show(bytes: &[u8], buffer: &mut [u8]) -> usize
     ensures shown { Shown (result_text (read_set bytes.now)) buffer.old buffer.new result }
     ensures counts { Counts result buffer.new }
 {
-    let result = set_reader::read(bytes);
-    let end = append_result(buffer, 0, result);
-    below(&buffer[..], end)
+    let mut out = Writer::new(buffer);
+    append_result(&mut out, set_reader::read(bytes));
+    out.length()
 }

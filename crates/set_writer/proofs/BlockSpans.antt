@@ -1,16 +1,16 @@
 -- The blocks of a set, put span by span.
-use Prim.Native.Nat.{ℕ, ◌+◌, ◌*◌, ◌-◌, ◌/◌, ◌%◌, ◌≤◌}
+use Prim.Native.Nat.{ℕ, ◌+◌, ◌*◌, ◌-◌, ◌/◌, ◌%◌, ◌≤◌, ◌<◌}
 use mathlib.Core.Path.{◌≡◌, refl, ap, sym, ◌∙◌}
 use mathlib.Core.List.{List, ◌++◌}
-use lib.ListN.{length, take, drop, replicate}
-use lib.Seq.{sets}
+use lib.ListN.{length, take, drop, length-take, length-drop}
+use lib.Seq.{get_or-take, get_or-drop}
 use native.Mathlib.Omega.{arith}
 use borrow.Author.Tests.{lt-ltb, le-ltb}
 use Rattle.base_lists.specs.Bounded.{tab}
 use Rattle.base_bytes.specs.Bytes.{byte}
 use Rattle.set_plan.specs.declared.Plan.{Plan}
 use Rattle.set_writer.specs.Write.{block_byte, plan_head, plan_byte, rows_in_block, message_head, message_byte, data_byte}
-use Rattle.set_writer.proofs.Blocks.{block_put}
+use Rattle.set_writer.proofs.Blocks.{block_parts}
 use Rattle.base_bytes.specs.Puts.{Put}
 use Rattle.set_record.specs.Entries.{entry_byte_at, row_byte_at}
 use Rattle.set_record.specs.Record.{record_of}
@@ -42,26 +42,39 @@ module _ (p : Plan) where
   long_put d x y z h j k l =
       put_whole 1536 (data_byte p) d z (block_next 2 1024 1536 d y z (omega arith) refl refl (block_next 1 512 1024 d x y (omega arith) refl refl h j) k) l
 
+-- bytes of a part of a list
+part_byte : (s : List ℕ) (a k i : ℕ) → i < k → byte (take (a + k - a) (drop a s)) i ≡ byte s (a + i)
+part_byte s a k i h =
+    let w : a + k - a ≡ k = omega arith in
+    ap (λ n. byte (take n (drop a s)) i) w ∙ get_or-take k (drop a s) i 0 h ∙ get_or-drop a s i 0
+
+part_long : (s : List ℕ) (a k : ℕ) → a + k ≤ length s → length (take (a + k - a) (drop a s)) ≡ k
+part_long s a k h = omega (arith, length-take (a + k - a) (drop a s), length-drop a s)
+
 -- each from the bytes of a packed record
 module _ (s : List ℕ) (size : length s ≡ 592) where
-  pub plan_put : (n : ℕ) (d x y z head : List ℕ) → n ≡ (record_of s).nodecount → n ≤ 16 → 512 ≤ length d → head ≡ plan_head (record_of s) → x ≡ sets d 0 head
-      → y ≡ sets x 32 (take (19 + 4 * n - 19) (drop 19 s)) → z ≡ sets y (32 + 4 * n) (replicate (512 - (32 + 4 * n)) 0) → Put 0 512 (data_byte (record_of s)) d z
+  pub plan_put : (n : ℕ) (d z head : List ℕ) → n ≡ (record_of s).nodecount → n ≤ 16 → head ≡ plan_head (record_of s)
+      → Put 0 512 (byte (head ++ take (19 + 4 * n - 19) (drop 19 s))) d z → Put 0 512 (data_byte (record_of s)) d z
   unfolding data_byte plan_byte
-  plan_put n d x y z head is few long e h1 h2 h3 =
+  plan_put n d z head is few e h =
       let p = record_of s in
-      let a : Put 0 512 (block_byte head 32 (entry_byte_at p.nodes) n) d z = block_put head 32 (entry_byte_at p.nodes) n s 0 19 32 (32 + 4 * n) d x y z
-      (ap length e ∙ plan_head_long p) (omega arith) (omega arith) (omega arith) (λ i q. sym (entry_in s size i (omega arith))) refl (omega arith) h1 h2 h3 in
+      let used = take (19 + 4 * n - 19) (drop 19 s) in
+      let a : Put 0 512 (block_byte head 32 (entry_byte_at p.nodes) n) d z = put_as 0 512 (byte (head ++ used)) _ d z h
+      (λ i q. sym (block_parts head 32 (entry_byte_at p.nodes) n used (ap length e ∙ plan_head_long p) (part_long s 19 (4 * n) (omega arith))
+      (λ k r. entry_in s size k (omega arith) ∙ sym (part_byte s 19 (4 * n) k r)) i)) in
       put_as 0 512 _ (data_byte p) d z (rw (e, is) at a) (λ i q. rw (lt-ltb i 512 q))
 
-  pub message_put : (b n : ℕ) (d x y z head : List ℕ) → 1 ≤ b → n ≡ rows_in_block (record_of s).rowcount b → n ≤ 100 → 100 * (b - 1) + n ≤ 127 → 512 * b + 512 ≤ length d
-      → head ≡ message_head (record_of s).revision (rows_in_block (record_of s).rowcount b) → x ≡ sets d (512 * b) head
-      → y ≡ sets x (512 * b + 8) (take (83 + 400 * (b - 1) + 4 * n - (83 + 400 * (b - 1))) (drop (83 + 400 * (b - 1)) s)) → z ≡ sets y (512 * b + (8 + 4 * n)) (replicate (512 - (8 + 4 * n)) 0)
+  pub message_put : (b n : ℕ) (d z head : List ℕ) → 1 ≤ b → n ≡ rows_in_block (record_of s).rowcount b → n ≤ 100 → 100 * (b - 1) + n ≤ 127
+      → head ≡ message_head (record_of s).revision (rows_in_block (record_of s).rowcount b)
+      → Put (512 * b) 512 (byte (head ++ take (83 + 400 * (b - 1) + 4 * n - (83 + 400 * (b - 1))) (drop (83 + 400 * (b - 1)) s))) d z
       → Put (512 * b) 512 (message_byte (record_of s) b) d z
   unfolding message_byte
-  message_put b n d x y z head some is few within long e h1 h2 h3 =
+  message_put b n d z head some is few within e h =
       let p = record_of s in
+      let first = 83 + 400 * (b - 1) in
+      let used = take (first + 4 * n - first) (drop first s) in
       let rows : ℕ → ℕ = λ i. row_byte_at p.rows (400 * (b - 1) + i) in
-      let a : Put (512 * b) 512 (block_byte head 8 rows n) d z = block_put head 8 rows n s (512 * b) (83 + 400 * (b - 1)) (512 * b + 8) (512 * b + (8 + 4 * n)) d x y z
-      (ap length e ∙ message_head_long p.revision (rows_in_block p.rowcount b)) (omega arith) (omega arith) (omega arith)
-      (λ i q. let t : 83 + (400 * (b - 1) + i) ≡ 83 + 400 * (b - 1) + i = omega arith in sym (row_in s size (400 * (b - 1) + i) (omega arith) ∙ ap (byte s) t)) refl refl h1 h2 h3 in
+      let a : Put (512 * b) 512 (block_byte head 8 rows n) d z = put_as (512 * b) 512 (byte (head ++ used)) _ d z h
+      (λ i q. sym (block_parts head 8 rows n used (ap length e ∙ message_head_long p.revision (rows_in_block p.rowcount b)) (part_long s first (4 * n) (omega arith))
+      (λ k r. let t : 83 + (400 * (b - 1) + k) ≡ first + k = omega arith in row_in s size (400 * (b - 1) + k) (omega arith) ∙ ap (byte s) t ∙ sym (part_byte s first (4 * n) k r)) i)) in
       rw (e, is) at a

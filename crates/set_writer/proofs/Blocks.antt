@@ -1,16 +1,31 @@
 -- A block: its head, its entries or rows, its filler.
 use Prim.Native.Nat.{ℕ, suc, ◌+◌, ◌*◌, ◌-◌, ◌≤◌, ◌<◌}
 use mathlib.Core.Path.{◌≡◌, refl, ap, sym, ◌∙◌}
-use mathlib.Core.List.{List}
-use lib.ListN.{length, get_or, take, drop, replicate}
-use lib.Seq.{sets}
+use mathlib.Core.List.{List, ◌++◌}
+use lib.ListN.{length, get_or, replicate, get_or-append, get_or-eq_default, length-append}
+use lib.Seq.{sets, get_or-append-add}
 use native.Mathlib.Omega.{arith}
 use native.Mathlib.Decide.{dec_lt}
 use borrow.Author.Tests.{lt-ltb, le-ltb}
 use Rattle.base_bytes.specs.Bytes.{byte}
 use Rattle.base_bytes.specs.Puts.{Put}
-use Rattle.base_bytes.proofs.Puts.{put_as, put_next, put_list, put_zero_run, put_slice}
+use Rattle.base_bytes.proofs.Puts.{put_as, put_next, put_list, put_zero_run}
 use Rattle.set_writer.specs.Write.{block_byte}
+
+-- a head, entries or rows, and zeros
+pub put_parts : (at : ℕ) (head used d x y z : List ℕ) → length head + length used ≤ 512 → at + 512 ≤ length d → x ≡ sets d at head → y ≡ sets x (at + length head) used
+    → z ≡ sets y (at + length head + length used) (replicate (512 - length head - length used) 0) → Put at 512 (byte (head ++ used)) d z
+put_parts at head used d x y z few long e f g =
+    let h = length head in
+    let u = length used in
+    let all : ℕ → ℕ = byte (head ++ used) in
+    let b1 : Put at h (byte head) d x = put_list at head d x e (omega arith) in
+    let b2 : Put (at + h) u (byte used) x y = put_list (at + h) used x y f (omega (arith, b1.size)) in
+    let b3 : Put (at + h + u) (512 - h - u) (λ i. 0) y z = put_zero_run _ _ y z g (omega (arith, b1.size, b2.size)) in
+    let a1 : Put at h all d x = put_as at h (byte head) all d x b1 (λ i q. sym (get_or-append head used 0 i q)) in
+    let a2 : Put at (h + u) all d y = put_next at h u (h + u) all (byte used) d x y (at + h) a1 b2 refl refl (λ i q. sym (get_or-append-add head used i 0)) in
+    put_next at (h + u) (512 - h - u) 512 all (λ i. 0) d y z (at + h + u) a2 b3 (omega arith) (omega arith)
+    (λ i q. sym (get_or-eq_default (head ++ used) 0 (omega (arith, length-append head used))))
 
 module _ (head : List ℕ) (from : ℕ) (four : ℕ → ℕ) (count : ℕ) where
   abbrev B : ℕ → ℕ
@@ -39,18 +54,12 @@ module _ (head : List ℕ) (from : ℕ) (four : ℕ → ℕ) (count : ℕ) where
           sym (ap B z) ∙ in_fours (o - from) (omega arith) ∙ b (o - from) (omega arith) ∙ ap g z
       go (no p) (no q) = in_filler o (omega arith) ∙ c o (omega arith) h
 
-  -- put span by span, its entries or rows from a packed record
-  pub block_put : (s : List ℕ) (at a first rest : ℕ) (d x y z : List ℕ) → length head ≡ from → from + 4 * count ≤ 512 → at + 512 ≤ length d → a + 4 * count ≤ length s
-      → ((i : ℕ) → i < 4 * count → byte s (a + i) ≡ four i) → first ≡ at + from → rest ≡ at + (from + 4 * count)
-      → x ≡ sets d at head → y ≡ sets x first (take (a + 4 * count - a) (drop a s)) → z ≡ sets y rest (replicate (512 - (from + 4 * count)) 0) → Put at 512 B d z
-  block_put s at a first rest d x y z l few long inside same u v h1 h2 h3 =
-      let w : a + 4 * count - a ≡ 4 * count = omega arith in
-      let b1 : Put at (length head) (byte head) d x = put_list at head d x h1 (omega arith) in
-      let b2 : Put first (4 * count) (λ i. byte s (a + i)) x y = put_slice first a (4 * count) s x y (rw w at h2) inside (omega (arith, b1.size)) in
-      let b3 : Put rest (512 - (from + 4 * count)) (λ i. 0) y z = put_zero_run _ _ y z h3 (omega (arith, b1.size, b2.size)) in
-      let a1 : Put at from B d x = put_as at from (byte head) B d x (rw l at b1) (λ i q. sym (in_head i q)) in
-      let a2 : Put at (from + 4 * count) B d y = put_next at from (4 * count) (from + 4 * count) B (λ i. byte s (a + i)) d x y first a1 b2 u refl (λ i q. same i q ∙ sym (in_fours i q)) in
-      put_next at (from + 4 * count) (512 - (from + 4 * count)) 512 B (λ i. 0) d y z rest a2 b3 v (omega arith) (λ i q. sym (in_filler (from + 4 * count + i) (omega arith)))
+  -- a head and its entries or rows, behind which a byte reads as 0
+  pub block_parts : (used : List ℕ) → length head ≡ from → length used ≡ 4 * count → ((i : ℕ) → i < 4 * count → four i ≡ byte used i) → (o : ℕ) → B o ≡ byte (head ++ used) o
+  block_parts used l m same o =
+      block_is (byte (head ++ used)) (suc o) (λ k h. sym (get_or-append head used 0 k (omega arith)))
+      (λ i h. same i h ∙ sym (ap (λ k. byte (head ++ used) (k + i)) (sym l) ∙ get_or-append-add head used i 0))
+      (λ k h q. sym (get_or-eq_default (head ++ used) 0 (omega (arith, length-append head used)))) o (omega arith)
 
 pub block_same : (head : List ℕ) (from : ℕ) (four other : ℕ → ℕ) (count : ℕ) → ((i : ℕ) → i < 4 * count → four i ≡ other i)
     → (o : ℕ) → block_byte head from four count o ≡ block_byte head from other count o

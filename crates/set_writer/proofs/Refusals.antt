@@ -1,17 +1,19 @@
 -- What a write gives and leaves, by its refusal.
 use Prim.Native.Nat.{ℕ, ◌≤◌, ◌<◌}
-use mathlib.Core.Path.{◌≡◌, refl}
+use mathlib.Core.Path.{◌≡◌, refl, sym}
 use mathlib.Core.List.{List, ◌++◌}
 use mathlib.Core.Bool.{Bool, true, false}
 use lib.ListN.{length, drop}
-use lib.Dec.{ltb, eqb}
+use lib.Dec.{ltb, leb, eqb}
 use native.Mathlib.Omega.{arith}
-use borrow.Author.Tests.{eq-eqb, ne_eqb, lt-ltb, le-ltb, ltb-false, eqb-true}
+use borrow.Author.Tests.{eq-eqb, ne_eqb, lt-ltb, le-ltb, ltb-false, leb-true, leb-false, eqb-true}
 use Rattle.base_lists.specs.Bounded.{tab}
+use Rattle.base_refusals.specs.declared.Refusal.{Refusal}
+use Rattle.base_refusals.specs.Numbers.{number_of, unless}
 use Rattle.base_lists.proofs.Tables.{length-tab}
 use Rattle.set_plan.specs.declared.Plan.{Plan}
 use Rattle.set_plan.specs.Rules.{plan_refusal}
-use Rattle.set_writer.specs.declared.WriteResult.{WriteResult}
+use Rattle.set_writer.specs.Write.{WriteResult}
 use Rattle.set_writer.specs.Write.{set_length, data_byte, with_checks, write_set, write_refusal, write_result, written}
 use Rattle.set_writer.proofs.SetBytes.{checks_front}
 
@@ -40,6 +42,14 @@ module _ (p : Plan) where
   pub room-given : (n : ℕ) → plan_refusal p ≡ 0 → set_length p.rowcount ≤ n → write_refusal p n ≡ 0
   unfolding write_refusal
   room-given n a b = rw (a, le-ltb n (set_length p.rowcount) b)
+
+  -- what the room allows an accepted plan
+  pub by_room : (n : ℕ) → plan_refusal p ≡ 0 → number_of (unless Refusal.BufferShort (leb (set_length p.rowcount) n)) ≡ write_refusal p n
+  by_room n a = go (leb (set_length p.rowcount) n) refl
+    where
+      go : (b : Bool) → leb (set_length p.rowcount) n ≡ b → number_of (unless Refusal.BufferShort b) ≡ write_refusal p n
+      go true u = sym (room-given n a (leb-true _ _ u))
+      go false u = sym (short_refused n a (leb-false _ _ u))
 
   pub refused-result : (n k : ℕ) → k ≡ write_refusal p n → (k ≡ 0 → ⊥) → ◌≡◌ {A = WriteResult} (record { refusal = k; length = 0 }) (write_result p n)
   unfolding write_result

@@ -1,14 +1,15 @@
 -- The bytes of a plan's set, and what a write gives and leaves in a buffer.
-use Rattle.std.specs.Prelude.{ℕ, ◌+◌, ◌*◌, ◌-◌, ◌/◌, ◌%◌, min, List, [], ◌∷◌, ◌++◌, length, get_or, set, drop, replicate, leb, ltb, eqb}
+use Rattle.std.specs.Prelude.{ℕ, ◌+◌, ◌*◌, ◌-◌, ◌/◌, ◌%◌, min, List, [], ◌∷◌, ◌++◌, length, get_or, set, drop, replicate, leb, ltb, eqb, Result, Ok, Err}
 use Rattle.base_lists.specs.Bounded.{if_else, tab}
 use Rattle.base_bytes.specs.Bytes.{high_byte, low_byte, two_bytes}
 use Rattle.base_bytes.specs.Check.{block_check}
 use Rattle.base_bytes.specs.Limits.{block_length}
+use Rattle.base_refusals.specs.declared.Refusal.{Refusal}
+use Rattle.base_refusals.specs.Numbers.{number}
 use Rattle.set_plan.specs.declared.Plan.{Plan}
 use Rattle.set_plan.specs.Limits.{block_rows}
 use Rattle.set_plan.specs.Rules.{plan_refusal}
 use Rattle.set_record.specs.Entries.{times_bytes, entry_byte_at, row_byte_at}
-use Rattle.set_writer.specs.declared.WriteResult.{WriteResult}
 
 -- the first 32 bytes of the plan block: "0 = 50 hex; 1 = 1; 2-3 revision ..; 4 = N ..; 6-19 seven times", and "byte 5" the profile
 unfoldable pub plan_head : Plan → List ℕ
@@ -60,6 +61,16 @@ write_set p = with_checks p.rowcount (tab (set_length p.rowcount) (data_byte p))
 -- "The writer checks 4 to 8, then 10", and 3 of the profile "before 4", the buffer having so many bytes
 unfoldable pub write_refusal : Plan → ℕ → ℕ
 write_refusal p room = if_else (eqb (plan_refusal p) 0) (if_else (ltb room (set_length p.rowcount)) 10 0) (plan_refusal p)
+
+-- what a write gives: 0 and the set's length, or a number and 0
+pub record WriteResult : Type 0 where
+  pub refusal : ℕ
+  pub length : ℕ
+
+-- the value that a call returns, so told
+abbrev pub write_told : Result ℕ Refusal → WriteResult
+write_told (Ok length) = record { refusal = 0; length = length }
+write_told (Err refusal) = record { refusal = number refusal; length = 0 }
 
 -- "returns the set's length"; 0 where it is refused
 unfoldable pub write_result : Plan → ℕ → WriteResult

@@ -1,6 +1,7 @@
 // The blocks of a packed record's set, put into a buffer span by span.
 ghost use Rattle.std.specs.Prelude.{◌≡◌, ◌++◌, ◌+◌, ◌*◌, ◌-◌, ◌≤◌, ◌<◌, length, drop};
 ghost use Rattle.base_lists.specs.Bounded.{tab};
+ghost use Rattle.base_bytes.specs.Bytes.{byte};
 ghost use Rattle.base_bytes.specs.Puts.{Put};
 ghost use Rattle.base_bytes.specs.Limits.{block_length};
 ghost use Rattle.set_plan.specs.Limits.{max_nodes, max_rows, block_rows};
@@ -8,52 +9,28 @@ ghost use Rattle.set_record.specs.Offsets.{record_length};
 ghost use Rattle.set_record.specs.Record.{record_of};
 ghost use Rattle.set_writer.specs.Write.{plan_head, rows_in_block, message_head, message_byte, data_byte, set_length, with_check, with_checks};
 
-use base_bytes::{BLOCK_LENGTH, block_check, put, put_zeros};
+use base_bytes::{BLOCK_LENGTH, block_check, put};
 use set_plan::Plan;
-use set_reader::{CHECK_AT, ENTRIES_AT, LONG_LENGTH, ROWS_AT, SHORT_LENGTH};
-use set_record::least;
+use set_reader::{CHECK_AT, ENTRIES_AT, LONG_LENGTH, ROWS_AT, SHORT_LENGTH, TIMES_AT};
+use set_record::{put_filled, times_bytes};
 
 fn plan_head(plan: &[u8]) -> [u8; ENTRIES_AT]
     ensures { result ≡ plan_head (record_of plan.now) }
 {
-    let t = set_record::times_of(plan);
-    let v = set_record::revision_of(plan);
-    let n = set_record::node_count(plan);
-    let profile = set_record::profile_of(plan);
-    [
+    let [v0, v1] = set_record::revision_of(plan).to_be_bytes();
+    let start = [
         0x50,
         1,
-        (v / 256) as u8,
-        (v % 256) as u8,
-        n,
-        profile,
-        (t.window / 256) as u8,
-        (t.window % 256) as u8,
-        (t.stop / 256) as u8,
-        (t.stop % 256) as u8,
-        (t.sleep / 256) as u8,
-        (t.sleep % 256) as u8,
-        (t.quiet / 256) as u8,
-        (t.quiet % 256) as u8,
-        (t.recovery / 256) as u8,
-        (t.recovery % 256) as u8,
-        (t.space / 256) as u8,
-        (t.space % 256) as u8,
-        (t.start / 256) as u8,
-        (t.start % 256) as u8,
-        0,
-        0,
-        0,
-        0,
-        0,
-        0,
-        0,
-        0,
-        0,
-        0,
-        0,
-        0,
-    ]
+        v0,
+        v1,
+        set_record::node_count(plan),
+        set_record::profile_of(plan),
+    ];
+    let times = times_bytes(set_record::times_of(plan));
+    let mut head = [0; ENTRIES_AT];
+    put(&mut head[..], 0, &start[..]);
+    put(&mut head[..], TIMES_AT as usize, &times[..]);
+    head
 }
 
 // Rows in message block b, 1 or 2.
@@ -61,7 +38,7 @@ fn rows_in_block(count: u16, b: usize) -> u16
     requires { (1 ≤ b) × (b < 3) × (count ≤ max_rows) }
     ensures { (result ≡ rows_in_block count b) × (result ≤ block_rows) × (block_rows * (b - 1) + result ≤ max_rows) }
 {
-    let first = least(count as usize, Plan::BLOCK_ROWS as usize) as u16;
+    let first = count.min(Plan::BLOCK_ROWS);
     if b == 1 { first } else { count - first }
 }
 
@@ -69,33 +46,32 @@ fn message_head(revision: u16, rowcount: u16, b: usize) -> [u8; ROWS_AT]
     requires { (1 ≤ b) × (b < 3) × (rowcount ≤ max_rows) }
     ensures { result ≡ message_head revision (rows_in_block rowcount b) }
 {
+    let [v0, v1] = revision.to_be_bytes();
     let rows = rows_in_block(rowcount, b);
-    [
-        0x4d,
-        1,
-        (revision / 256) as u8,
-        (revision % 256) as u8,
-        rows as u8,
-        0,
-        0,
-        0,
-    ]
+    [0x4d, 1, v0, v1, rows as u8, 0, 0, 0]
+}
+
+// Puts block b: its head, its entries or rows, zeros.
+fn put_block(buffer: &mut [u8], b: usize, head: &[u8], used: &[u8])
+    requires { (length head.now + length used.now ≤ block_length) × (block_length * b + block_length ≤ length buffer.old) }
+    ensures { Put (block_length * b) block_length (byte (head.now ++ used.now)) buffer.old buffer.new }
+{
+    let start = BLOCK_LENGTH * b;
+    put(buffer, start, head);
+    put_filled(buffer, start + head.len(), used, BLOCK_LENGTH - head.len());
 }
 
 fn put_plan(plan: &[u8], buffer: &mut [u8])
     requires { (length plan.now ≡ record_length) × ((record_of plan.now).nodecount ≤ max_nodes) × (block_length ≤ length buffer.old) }
     ensures { Put 0 block_length (data_byte (record_of plan.now)) buffer.old buffer.new }
 {
-    let end = 4 * (set_record::node_count(plan) as usize);
-    let head = plan_head(plan);
-    put(buffer, 0, &head[..]);
-    put(
+    let end = set_record::ENTRIES_AT + 4 * usize::from(set_record::node_count(plan));
+    put_block(
         buffer,
-        ENTRIES_AT,
-        &plan[set_record::ENTRIES_AT..set_record::ENTRIES_AT + end],
+        0,
+        &plan_head(plan)[..],
+        &plan[set_record::ENTRIES_AT..end],
     );
-    let filler = ENTRIES_AT + end;
-    put_zeros(buffer, filler, BLOCK_LENGTH - filler);
 }
 
 fn put_message(plan: &[u8], buffer: &mut [u8], b: usize)
@@ -103,17 +79,10 @@ fn put_message(plan: &[u8], buffer: &mut [u8], b: usize)
     ensures { Put (block_length * b) block_length (message_byte (record_of plan.now) b) buffer.old buffer.new }
 {
     let rowcount = set_record::row_count(plan);
-    let end = 4 * (rows_in_block(rowcount, b) as usize);
     let first = set_record::ROWS_AT + 4 * (Plan::BLOCK_ROWS as usize) * (b - 1);
+    let end = first + 4 * usize::from(rows_in_block(rowcount, b));
     let head = message_head(set_record::revision_of(plan), rowcount, b);
-    put(buffer, BLOCK_LENGTH * b, &head[..]);
-    put(
-        buffer,
-        BLOCK_LENGTH * b + ROWS_AT,
-        &plan[first..first + end],
-    );
-    let filler = ROWS_AT + end;
-    put_zeros(buffer, BLOCK_LENGTH * b + filler, BLOCK_LENGTH - filler);
+    put_block(buffer, b, &head[..], &plan[first..end]);
 }
 
 // Puts every byte of the set but the checks, which are left 0.
@@ -132,10 +101,10 @@ fn put_check(buffer: &mut [u8], b: usize)
     requires { (b < 3) × (block_length * b + block_length ≤ length buffer.old) }
     ensures { buffer.new ≡ with_check buffer.old b }
 {
-    let check = block_check(&buffer[..], BLOCK_LENGTH * b);
     let at = BLOCK_LENGTH * b + CHECK_AT;
-    buffer[at] = (check / 256) as u8;
-    buffer[at + 1] = (check % 256) as u8;
+    let [high, low] = block_check(&buffer[..], BLOCK_LENGTH * b).to_be_bytes();
+    buffer[at] = high;
+    buffer[at + 1] = low;
 }
 
 pub(crate) fn set_length(rowcount: u16) -> usize

@@ -2,18 +2,15 @@
 #![tactic(auto)]
 
 fn main(rt: HostRuntime) {
-    let mut set = program_files::set_room();
-    let file = program_files::read_set(
+    program_files::with_set(
         &rt,
         b"show",
         b"Prints a release set in words, a line each; of a refused set its number and the broken rule.\n",
-        &mut set,
+        |set| {
+            // The words of the longest set take about a sixth of it.
+            let mut out = program_files::text_room();
+            let length = set_text::show(set, &mut out);
+            program_files::print(&rt, b"show", true, &out[..length]);
+        },
     );
-    if file.whole {
-        let count = file.count;
-        // The words of the longest set take about a sixth of it.
-        let mut out = program_files::text_room();
-        let length = set_text::show(&set[..count], &mut out);
-        program_files::print(&rt, b"show", true, &out[..length]);
-    }
 }

@@ -2,10 +2,11 @@
 // prints what the call answers, the master, and seven replies: a place more than there are events. tests/batches/make.py writes the lists.
 #![tactic(auto)]
 
-ghost use Rattle.std.specs.Prelude.{◌≡◌};
+ghost use Rattle.std.specs.Prelude.{◌≡◌, ◌≤◌};
 ghost use Rattle.machine_batch.specs.Batch.{batch_of, batch_replies};
 
 use base_bytes::{byte_at, number_at};
+use base_refusals::number_of;
 use machine_events::{EventRecord, ReplyRecord};
 use machine_master::{Hold, Master};
 use set_plan::Plan;
@@ -28,8 +29,8 @@ fn run_six(plan: Plan, master: Master, events: [EventRecord; 6], replies: [Reply
     let mut written = replies;
     let batch = machine_batch::run(plan, master, &events, &mut written);
     Ran {
-        refusal: batch.refusal,
-        master: batch.master,
+        refusal: number_of(batch),
+        master: batch.unwrap_or(master),
         replies: written,
     }
 }
@@ -75,20 +76,14 @@ fn print_ran(rt: &HostRuntime, ran: Ran) {
     let replies = ran.replies;
     print_number(rt, ran.refusal as u64);
     print_master(rt, master);
-    print_reply(rt, replies[0]);
-    print_reply(rt, replies[1]);
-    print_reply(rt, replies[2]);
-    print_reply(rt, replies[3]);
-    print_reply(rt, replies[4]);
-    print_reply(rt, replies[5]);
-    print_reply(rt, replies[6]);
+    for reply in replies {
+        print_reply(rt, reply);
+    }
     print(rt, b"\n");
 }
 
-// The plan of the set in a file that a digit names.
 fn set_of(rt: &HostRuntime, number: u8) -> Plan {
-    let name = [48 + number % 10, b'.', b's', b'e', b't'];
-    program_files::plan_in(rt, b"test_batch", &name)
+    program_files::numbered_plan(rt, b"test_batch", number as u64)
 }
 
 // No set can hold plan 1: it is plan 0 with revision 0.
@@ -119,14 +114,7 @@ fn event_at(text: &[u8], at: u16) -> EventRecord {
 
 // Six records after the bytes of plan and start.
 fn events_of(list: &[u8]) -> [EventRecord; 6] {
-    [
-        event_at(list, 2),
-        event_at(list, 12),
-        event_at(list, 22),
-        event_at(list, 32),
-        event_at(list, 42),
-        event_at(list, 52),
-    ]
+    std::array::from_fn(|k| event_at(list, 2 + 10 * (k as u16)))
 }
 
 // Where a list starts from: 0 the plan's power-on, 1 what the list before it left, 2 a state out of range.
@@ -159,13 +147,8 @@ fn run_list(rt: &HostRuntime, list: &[u8], left: Master) -> Master {
 
 fn run_lists(rt: &HostRuntime, text: &[u8]) {
     let mut left = Master::power_on(true);
-    let mut at: usize = 0;
-    while at < text.len() {
-        left = run_list(rt, &text[at..], left);
-        if text.len() - at < LIST_LENGTH {
-            return;
-        }
-        at += LIST_LENGTH;
+    for list in text.chunks(LIST_LENGTH) {
+        left = run_list(rt, list, left);
     }
 }
 

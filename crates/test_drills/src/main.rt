@@ -14,23 +14,23 @@ fn run(rt: &HostRuntime, set_argument: usize, argument: usize) {
     print(rt, &name[..length]);
     print(rt, b"\n");
     let mut set = program_files::set_room();
-    let read = program_files::read_file(rt, b"test_drills", &set_name[..set_length], &mut set);
-    let count = read.count;
+    let (Ok(count) | Err(count)) = program_files::read_file(
+        rt,
+        b"test_drills",
+        &set_name[..set_length],
+        &mut set,
+    );
     let Ok(mut file) = program_files::open(rt, &name[..length]) else {
         print(rt, b"no script\n");
         return;
     };
-    program_drill::drill(rt, b"test_drills", &set[..count], &mut file);
+    let _ = program_drill::drill(rt, b"test_drills", &set[..count], &mut file);
 }
 
 fn main(rt: HostRuntime) {
     let count = program_files::argument_count(&rt);
-    let mut i: usize = 1;
-    while i < count {
-        if count - i < 2 {
-            return;
-        }
-        run(&rt, i, i + 1);
-        i += 2;
+    // The program's own name stands before the pairs.
+    for pair in 0..count.saturating_sub(1) / 2 {
+        run(&rt, 2 * pair + 1, 2 * pair + 2);
     }
 }

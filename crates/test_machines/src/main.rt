@@ -2,6 +2,8 @@
 // shows. It prints the state, the command and the refusal that the step gives. tests/machines/make.py writes the cases.
 #![tactic(auto)]
 
+ghost use Rattle.std.specs.Prelude.{◌≤◌, ◌-◌, length};
+
 use set_plan::Plan;
 use test_output::print;
 
@@ -9,58 +11,38 @@ mod masters;
 mod nodes;
 mod output;
 
-// A number, and the place past the separator behind it.
-#[derive(Clone, Copy)]
-struct Parsed {
-    value: u64,
-    next: usize,
-}
-
-#[derive(Clone, Copy)]
-struct Case {
-    values: [u64; 22],
-    next: usize,
-}
-
-fn number(text: &[u8], start: usize) -> Parsed {
-    let mut value: u64 = 0;
-    let mut at = start;
-    while at < text.len() {
-        let digit = text[at];
-        at += 1;
-        if digit < 48 {
-            return Parsed { value, next: at };
-        }
-        value = (value % 1000000000 * 10 + (digit % 16) as u64) % 4294967296;
+// What stands before the first byte that is a separator, and what stands behind that byte.
+fn split_at_first<F: Fn(u8) -> bool>(text: &[u8], separator: F) -> (&[u8], &[u8])
+    requires { F.IsAlwaysCallable separator }
+    ensures { length result.1.now ≤ length text.now - 1 }
+{
+    match text.iter().position(|byte| separator(*byte)) {
+        Some(place) => (&text[..place], &text[place + 1..]),
+        None => (text, b""),
     }
-    Parsed { value, next: at }
 }
 
-fn case_at(text: &[u8], start: usize) -> Case {
+fn number(digits: &[u8]) -> u64 {
+    digits.iter().fold(0, |value, digit| {
+        (value % 1000000000 * 10 + (digit % 16) as u64) % 4294967296
+    })
+}
+
+// The numbers of a case, and what stands behind them.
+fn case_of(text: &[u8]) -> ([u64; 22], &[u8])
+    ensures { length result.1.now ≤ length text.now - 1 }
+{
     let mut values = [0u64; 22];
-    let mut at = start;
-    let mut i: usize = 0;
-    while i < 22 {
-        let n = number(text, at);
-        values[i] = n.value;
-        at = n.next;
-        i += 1;
+    let mut rest = text;
+    for value in &mut values {
+        let (digits, more) = split_at_first(rest, |byte| byte < b'0');
+        *value = number(digits);
+        rest = more;
     }
-    Case { values, next: at }
+    (values, rest)
 }
 
-fn line_end(text: &[u8], start: usize) -> usize {
-    let mut at = start;
-    while at < text.len() {
-        if text[at] == 10 {
-            return at;
-        }
-        at += 1;
-    }
-    at
-}
-
-// A number as one of a narrower type.
+// A number's remainder as one of a narrower type: an `as` alone is no plainer, since it is proved to lose nothing.
 fn narrow(x: u64) -> u8 {
     (x % 256) as u8
 }
@@ -73,10 +55,8 @@ fn wide(x: u64) -> u32 {
     (x % 4294967296) as u32
 }
 
-// The plan of the set in a file that a digit names.
 fn set_of(rt: &HostRuntime, number: u64) -> Plan {
-    let name = [48 + (number % 10) as u8, b'.', b's', b'e', b't'];
-    program_files::plan_in(rt, b"test_machines", &name)
+    program_files::numbered_plan(rt, b"test_machines", number)
 }
 
 fn with_kind_4(mut plan: Plan) -> Plan {
@@ -102,34 +82,26 @@ fn plan_of(rt: &HostRuntime, number: u64) -> Plan {
     }
 }
 
-fn run_case(rt: &HostRuntime, text: &[u8], start: usize) -> usize {
-    let case = case_at(text, start);
-    let shows = case.next;
-    let end = line_end(text, shows);
-    let values = case.values;
+// Runs the case at the front of a text, and gives what stands behind its line.
+fn run_case<'a>(rt: &HostRuntime, text: &'a [u8]) -> &'a [u8]
+    ensures { length result.now ≤ length text.now - 1 }
+{
+    let (values, rest) = case_of(text);
+    let (shows, more) = split_at_first(rest, |byte| byte == b'\n');
     if values[0] == 0 {
         masters::run(rt, values);
     } else {
         nodes::run(rt, values);
     }
-    if shows <= end && end <= text.len() {
-        print(rt, &text[shows..end]);
-    }
+    print(rt, shows);
     print(rt, b"\n");
-    end
+    more
 }
 
 fn run(rt: &HostRuntime, text: &[u8]) {
-    let mut at: usize = 0;
-    while at < text.len() {
-        let end = run_case(rt, text, at);
-        if end <= at {
-            return;
-        }
-        if text.len() <= end {
-            return;
-        }
-        at = end + 1;
+    let mut rest = text;
+    while !rest.is_empty() {
+        rest = run_case(rt, rest);
     }
 }
 

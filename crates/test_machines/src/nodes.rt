@@ -1,16 +1,12 @@
 // Cases of a node.
 use crate::output::{print_counts, print_flag, print_item};
 use crate::{middle, narrow, plan_of, wide};
-use machine_node::{Command, Delay, Event, Node};
+use machine_node::{Command, Event, Node};
 use machine_state::state_of;
 use test_output::{print, print_state};
 
-fn delay_of(x: u64) -> Delay {
-    if x == 0 {
-        Delay::Off
-    } else {
-        Delay::On(middle(x - 1))
-    }
+fn delay_of(x: u64) -> Option<u16> {
+    if x == 0 { None } else { Some(middle(x - 1)) }
 }
 
 fn node_of(v: [u64; 22]) -> Node {
@@ -62,10 +58,10 @@ fn print_command(rt: &HostRuntime, command: Command) {
     }
 }
 
-fn print_delay(rt: &HostRuntime, delay: Delay) {
+fn print_delay(rt: &HostRuntime, delay: Option<u16>) {
     match delay {
-        Delay::Off => print(rt, b"- "),
-        Delay::On(ticks) => print_item(rt, ticks as u64),
+        None => print(rt, b"- "),
+        Some(ticks) => print_item(rt, ticks as u64),
     }
 }
 

@@ -38,8 +38,12 @@ fn run_file(rt: &HostRuntime, argument: usize, plan: Plan) {
     let name_length = program_files::argument(rt, argument, &mut name);
     print(rt, &name[..name_length]);
     let mut moves = program_files::text_room();
-    let read = program_files::read_file(rt, b"test_moves", &name[..name_length], &mut moves);
-    let count = read.count;
+    let (Ok(count) | Err(count)) = program_files::read_file(
+        rt,
+        b"test_moves",
+        &name[..name_length],
+        &mut moves,
+    );
     print_ran(rt, bus_moves::run(plan, &moves[..count]));
 }
 

@@ -3,9 +3,9 @@
 // the request, what came of it, the address then and the buffer. Last it counts the refusals of requests of every length to 4,096.
 #![tactic(auto)]
 
-ghost use Rattle.std.specs.Prelude.{◌≤◌};
-
-use machine_node_configuration::{Identity, Reply, configure};
+use base_refusals::{Refusal, number_of};
+use base_text::{Writer, below};
+use machine_node_configuration::{Configured, Identity, configure};
 use test_output::{print, print_number};
 
 const NODE: Identity = Identity {
@@ -19,17 +19,17 @@ const NODE: Identity = Identity {
 const ROOM: usize = 16;
 
 fn print_byte(rt: &HostRuntime, byte: u8) {
-    let mut text = [32u8; 3];
-    base_text::append_hex(&mut text, 1, byte);
-    print(rt, &text);
+    let mut room = [0u8; 3];
+    let mut text = Writer::new(&mut room);
+    text.append(b" ");
+    text.hex(byte);
+    print(rt, text.written());
 }
 
 fn print_bytes(rt: &HostRuntime, label: &[u8], bytes: &[u8]) {
     print(rt, label);
-    let mut i: usize = 0;
-    while i < bytes.len() {
-        print_byte(rt, bytes[i]);
-        i += 1;
+    for byte in bytes {
+        print_byte(rt, *byte);
     }
 }
 
@@ -44,40 +44,39 @@ fn byte_of(high: u8, low: u8) -> u8 {
 
 // The bytes of a word in hex, as many as have room.
 fn decode(word: &[u8], bytes: &mut [u8]) -> usize {
-    let mut i: usize = 0;
-    while i < bytes.len() {
-        if word.len() / 2 <= i {
-            return i;
-        }
-        bytes[i] = byte_of(word[2 * i], word[2 * i + 1]);
-        i += 1;
+    for (byte, digits) in bytes.iter_mut().zip(word.chunks_exact(2)) {
+        *byte = byte_of(digits[0], digits[1]);
     }
-    i
+    bytes.len().min(word.len() / 2)
 }
 
-fn print_outcome(rt: &HostRuntime, reply: Reply, response: &[u8]) {
-    if reply.refusal != 0 {
-        print(rt, b": refused ");
-        print_number(rt, reply.refusal as u64);
-        return;
+fn print_outcome(rt: &HostRuntime, outcome: Result<Configured, Refusal>, response: &[u8]) {
+    match outcome {
+        Err(refusal) => {
+            print(rt, b": refused ");
+            print_number(rt, u64::from(refusal.number()));
+        }
+        Ok(Configured { length: 0, .. }) => print(rt, b": silence"),
+        Ok(Configured { length, .. }) => {
+            let length = below(response, length as usize);
+            print_bytes(rt, b": answer", &response[..length]);
+        }
     }
-    if reply.length == 0 {
-        print(rt, b": silence");
-        return;
-    }
-    let length = base_text::below(response, reply.length as usize);
-    print_bytes(rt, b": answer", &response[..length]);
 }
 
 // Gives the address after the case.
 fn run(rt: &HostRuntime, address: u8, request: &[u8], response: &mut [u8]) -> u8 {
     print_bytes(rt, b"request", request);
-    let reply = configure(NODE, address, request, response);
-    print_outcome(rt, reply, response);
-    print_bytes(rt, b", address", &[reply.address]);
+    let outcome = configure(NODE, address, request, response);
+    let next = match outcome {
+        Ok(done) => done.address,
+        Err(_) => address,
+    };
+    print_outcome(rt, outcome, response);
+    print_bytes(rt, b", address", &[next]);
     print_bytes(rt, b", buffer", response);
     print(rt, b"\n");
-    reply.address
+    next
 }
 
 fn run_case(rt: &HostRuntime, address: u8, argument: usize) -> u8 {
@@ -88,35 +87,22 @@ fn run_case(rt: &HostRuntime, address: u8, argument: usize) -> u8 {
     if count == 0 {
         return address;
     }
-    let length = base_text::below(&bytes, count - 1);
+    let length = below(&bytes, count - 1);
     let mut buffer = [0xaau8; ROOM];
-    let room = base_text::below(&buffer, base_bytes::byte_at(&bytes, length) as usize);
+    let room = below(&buffer, base_bytes::byte_at(&bytes, length) as usize);
     run(rt, address, &bytes[..length], &mut buffer[..room])
 }
 
-fn one_if_same(a: u8, b: u8) -> u64
-    ensures { result ≤ 1 }
-{
-    if a == b { 1 } else { 0 }
-}
-
 // How many of a text's 4,097 beginnings, as requests, have a refusal.
-fn refused_by(refusal: u8, text: &[u8]) -> u64 {
-    let mut space = [0u8; 8];
-    let buffer: &mut [u8] = &mut space;
-    let mut count: u64 = 0;
-    let mut i: usize = 0;
-    while i < 4097 {
-        let length = base_text::below(text, i);
-        let reply = configure(NODE, 0, &text[..length], buffer);
-        count += one_if_same(reply.refusal, refusal);
-        i += 1;
-    }
-    count
+fn refused_by(refusal: u8, text: &[u8; 4096]) -> usize {
+    let mut buffer = [0u8; 8];
+    (0..4097)
+        .filter(|length| number_of(configure(NODE, 0, &text[..*length], &mut buffer)) == refusal)
+        .count()
 }
 
-fn print_refused(rt: &HostRuntime, refusal: u8, text: &[u8], label: &[u8]) {
-    print_number(rt, refused_by(refusal, text));
+fn print_refused(rt: &HostRuntime, refusal: u8, text: &[u8; 4096], label: &[u8]) {
+    print_number(rt, refused_by(refusal, text) as u64);
     print(rt, label);
 }
 

@@ -4,7 +4,7 @@
 
 ghost use Rattle.std.specs.Prelude.{◌≡◌};
 
-use base_text::{append_decimal, below};
+use base_text::Writer;
 use machine_master::{Hold, Phase};
 use machine_state::State;
 
@@ -17,10 +17,10 @@ pub fn print(rt: &HostRuntime, text: &[u8])
 pub fn print_number(rt: &HostRuntime, number: u64)
     ensures { result ≡ tt }
 {
-    let mut digits = [0u8; 20];
-    let end = append_decimal(&mut digits, 0, number);
-    let length = below(&digits, end);
-    print(rt, &digits[..length]);
+    let mut room = [0u8; 20];
+    let mut digits = Writer::new(&mut room);
+    digits.decimal(number);
+    print(rt, digits.written());
 }
 
 pub fn print_state(rt: &HostRuntime, state: State)

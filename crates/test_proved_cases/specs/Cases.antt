@@ -2,7 +2,7 @@
 use Rattle.std.specs.Prelude.{ℕ, Bool, true, false, ◌≡◌, List, [], ◌∷◌, set, take, replicate}
 use Rattle.machine_state.specs.declared.State.{State}
 use Rattle.set_plan.specs.declared.Plan.{Plan}
-use Rattle.set_reader.specs.declared.ReadResult.{ReadResult}
+use Rattle.set_reader.specs.Read.{ReadResult}
 use Rattle.set_reader.specs.Read.{refused, read_set}
 use Rattle.set_writer.specs.Write.{with_check}
 use Rattle.machine_master.specs.declared.Phase.{Phase}

@@ -2,6 +2,7 @@
 // words; then what the writer makes of the record, in a buffer with room and in one of 1,023 bytes.
 #![tactic(auto)]
 
+use base_refusals::number_of;
 use set_plan::Plan;
 use test_output::{print, print_number};
 
@@ -12,23 +13,16 @@ fn print_item(rt: &HostRuntime, number: usize) {
 
 // Whether the front of a buffer holds a set and the rest is as it was.
 fn holds(buffer: &[u8], set: &[u8]) -> bool {
-    let mut i: usize = 0;
-    while i < buffer.len() {
-        let want = if i < set.len() { set[i] } else { 170 };
-        if buffer[i] != want {
-            return false;
-        }
-        i += 1;
-    }
-    true
+    let (front, rest) = buffer.split_at(set.len().min(buffer.len()));
+    set.starts_with(front) && rest.iter().all(|byte| *byte == 170)
 }
 
 // Writes a set's record into a buffer that held the byte 170 throughout, and prints what became of it.
 fn write_back(rt: &HostRuntime, plan: Plan, set: &[u8], buffer: &mut [u8]) {
-    let result = set_writer::write(plan, buffer);
+    let written = set_writer::write(plan, buffer);
     print(rt, b"write");
-    print_item(rt, result.refusal as usize);
-    print_item(rt, result.length);
+    print_item(rt, usize::from(number_of(written)));
+    print_item(rt, written.unwrap_or(0));
     if holds(buffer, b"") {
         print(rt, b" untouched\n");
         return;
@@ -45,11 +39,15 @@ fn show_file(rt: &HostRuntime, argument: usize) {
     let name_length = program_files::argument(rt, argument, &mut name);
     print(rt, &name[..name_length]);
     let mut set = program_files::set_room();
-    let read = program_files::read_file(rt, b"test_sets", &name[..name_length], &mut set);
-    let count = read.count;
-    let result = set_reader::read(&set[..count]);
-    let plan = result.plan;
-    print_item(rt, result.refusal as usize);
+    let (Ok(count) | Err(count)) = program_files::read_file(
+        rt,
+        b"test_sets",
+        &name[..name_length],
+        &mut set,
+    );
+    let read = set_reader::read(&set[..count]);
+    let plan = read.unwrap_or(Plan::zero());
+    print_item(rt, usize::from(number_of(read)));
     print(rt, b"\n");
     let mut out = program_files::text_room();
     let length = set_text::show(&set[..count], &mut out);

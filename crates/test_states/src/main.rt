@@ -17,30 +17,13 @@ use machine_node::Node;
 use packed_master::put_master;
 use packed_node::put_node;
 use set_plan::Plan;
-
-#[derive(Clone, Copy)]
-struct Turn {
-    world: World,
-    more: bool,
-}
-
-fn kind(is_move: bool) -> u8 {
-    if is_move { 0 } else { 1 }
-}
-
-// A step gives 15 for bytes that are no move.
-fn refusal(is_move: bool, number: u8) -> u8 {
-    if is_move { number } else { 0 }
-}
+use std::ops::ControlFlow;
 
 fn put_nodes(frame: &mut [u8], nodes: [Node; Plan::NODES])
     requires { 2491 ≤ length frame.old }
 {
-    let mut k: usize = 0;
-    while k < Plan::NODES {
-        let start = 203 + 143 * k;
-        put_node(&mut frame[start..], nodes[k]);
-        k += 1;
+    for (k, node) in nodes.iter().enumerate() {
+        put_node(&mut frame[203 + 143 * k..], *node);
     }
 }
 
@@ -55,44 +38,51 @@ fn put_frame(frame: &mut [u8], kind: u8, refusal: u8, world: World)
 }
 
 // Reads a record, which only the end of the input cuts short, and writes its frame.
-fn step_on(rt: &HostRuntime, plan: Plan, world: World, input: &mut [u8], frame: &mut [u8]) -> Turn
+fn step_on(
+    rt: &HostRuntime,
+    plan: Plan,
+    world: World,
+    input: &mut [u8],
+    frame: &mut [u8],
+) -> ControlFlow<(), World>
     requires { 2491 ≤ length frame.old }
 {
     let count = program_files::read_input(rt, input);
     if count == 0 {
-        return Turn { world, more: false };
+        return ControlFlow::Break(());
     }
     let moved = bus_moves::step(plan, world, &input[..count]);
     let next = moved.world;
-    let right = bus_moves::is_move(&input[..count]);
-    put_frame(frame, kind(right), refusal(right, moved.refusal), next);
-    let more = rt.write_all(&frame[..2491]).is_ok();
-    Turn { world: next, more }
+    // The step gives 15 for bytes that are no move.
+    let (kind, refusal) = if bus_moves::is_move(&input[..count]) {
+        (0, moved.refusal)
+    } else {
+        (1, 0)
+    };
+    put_frame(frame, kind, refusal, next);
+    match rt.write_all(&frame[..2491]) {
+        Ok(()) => ControlFlow::Continue(next),
+        Err(_) => ControlFlow::Break(()),
+    }
 }
 
-// The turns are counted, up to a number that no run uses up.
 fn run(rt: &HostRuntime, plan: Plan) {
-    let mut space = [0; bus_moves::MOVE_LENGTH];
-    let input: &mut [u8] = &mut space;
-    let mut room = program_files::line_room();
-    let frame: &mut [u8] = &mut room;
-    let mut world = World::power_on(plan.sleeps());
-    for _ in 0..u64::MAX {
-        let turn = step_on(rt, plan, world, input, frame);
-        world = turn.world;
-        if !turn.more {
-            return;
-        }
-    }
+    let mut input = [0; bus_moves::MOVE_LENGTH];
+    let mut frame = [0; 2491];
+    program_files::turns(World::power_on(plan.sleeps()), |world| {
+        step_on(rt, plan, world, &mut input, &mut frame)
+    });
 }
 
 fn main(rt: HostRuntime) {
     let mut set = program_files::set_room();
-    let read = program_files::read_file(&rt, b"test_states", b"plan.set", &mut set);
-    let count = read.count;
-    let result = set_reader::read(&set[..count]);
-    let plan = result.plan;
-    if result.refusal == 0 {
+    let (Ok(count) | Err(count)) = program_files::read_file(
+        &rt,
+        b"test_states",
+        b"plan.set",
+        &mut set,
+    );
+    if let Ok(plan) = set_reader::read(&set[..count]) {
         run(&rt, plan);
     }
 }

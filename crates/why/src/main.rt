@@ -2,16 +2,13 @@
 #![tactic(auto)]
 
 fn main(rt: HostRuntime) {
-    let mut set = program_files::set_room();
-    let file = program_files::read_set(
+    program_files::with_set(
         &rt,
         b"why",
         b"Reads moves from standard input and prints the drill's lines, then one more: why the master is\n\
 awake after the last move. drill --help has the moves.\n",
-        &mut set,
+        |set| {
+            let _ = program_drill::why(&rt, b"why", set, &mut rt.stdin());
+        },
     );
-    if file.whole {
-        let count = file.count;
-        program_drill::why(&rt, b"why", &set[..count], &mut rt.stdin());
-    }
 }

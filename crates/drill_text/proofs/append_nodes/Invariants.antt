@@ -1,13 +1,8 @@
 -- By the nodes so far.
-use Prim.Native.Nat.{◌-◌, ◌≤◌}
 use mathlib.Core.Path.{◌≡◌}
-use lib.ListN.{length}
-use Rattle.base_text.specs.Text.{Appended, largest}
+use Rattle.base_text.specs.Text.{wrote}
 use Rattle.drill_text.specs.Lines.{nodes_text}
 use Rattle.drill_text.proofs.append_nodes.Given as goal
 
-abbrev pub invariant-loop-k : goal.invariant-loop-k
-invariant-loop-k l = (l.k ≤ l.nodecount) × (l.k ≤ 16) × (length l.nodes ≡ 16) × (length l.buffer ≡ length l.initial.buffer) × (length l.initial.buffer ≤ largest) × Appended l.at (nodes_text l.nodes l.k) l.initial.buffer l.buffer l.next
-
-abbrev pub decreases-loop-k : goal.decreases-loop-k
-decreases-loop-k l = l.nodecount - l.k
+abbrev pub invariant-loop-node : goal.invariant-loop-node
+invariant-loop-node l = l.out ≡ wrote (nodes_text l.nodes l.node-index) l.initial.out

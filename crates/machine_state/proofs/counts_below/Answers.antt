@@ -22,16 +22,16 @@ both-none a b = go (eqb a 0) (eqb b 0) refl refl
     go true false e f = ne_eqb (a + b) 0 (λ w. eqb-false b 0 f (omega arith))
     go false y e f = ne_eqb (a + b) 0 (λ w. eqb-false a 0 e (omega arith))
 
-pub loop-i-init : goal.loop-i-init
-loop-i-init c = (search rules, search rules, search rules, sym (all_none _))
+pub loop-count-init : goal.loop-count-init
+loop-count-init c = (search rules, sym (all_none _))
 
-pub loop-i-preserved : goal.loop-i-preserved
-loop-i-preserved c =
-    let l = c.loop-i in
-    (search rules, search rules, omega (arith, c.past-above.ensures.1), both-none l.above c.past-above.result ∙ ap₂ ◌&&◌ l.invariant.3 c.past-above.ensures.0 ∙ sym (all_next _ _))
+pub loop-count-preserved : goal.loop-count-preserved
+loop-count-preserved c =
+    let l = c.loop-count in
+    (omega (arith, c.past-above.ensures.1), both-none l.above c.past-above.result ∙ ap₂ ◌&&◌ l.invariant.1 c.past-above.ensures.0 ∙ sym (all_next _ _))
 
 pub returns : goal.returns
 unfolding counts_below
 returns c =
-    let e : c.loop-i.i ≡ 128 = omega arith in
-    c.loop-i.invariant.3 ∙ ap (all_to (count_below c.args.limit c.args.counts)) e
+    let e : c.loop-count.count-index ≡ 128 = omega arith in
+    c.loop-count.invariant.1 ∙ ap (all_to (count_below c.args.limit c.args.counts)) e

@@ -9,11 +9,11 @@ loop-k-preserved c =
     let l = c.loop-k in
     let a = c.args in
     let e : c.age_node.new.state ≡ so_far a.state.now (is_normal_at a.state.now) a.window (min a.nodes (l.k + 1))
-    = rw (c.age_node.ensures, c.byte_at-normal.ensures, l.invariant.2) (next_place _ _ _ a.nodes l.k (search rules)) in
-    (search rules, ap length e ∙ so_far_long a.state.now (is_normal_at a.state.now) a.window (min a.nodes (l.k + 1)), e)
+    = rw (c.age_node.ensures, c.byte_at-normal.ensures, l.invariant.1) (next_place _ _ _ a.nodes l.k (search rules)) in
+    (ap length e ∙ so_far_long a.state.now (is_normal_at a.state.now) a.window (min a.nodes (l.k + 1)), e)
 
 pub returns : goal.returns
 returns c =
     let l = c.loop-k in
     let a = c.args in
-    l.invariant.2 ∙ all_aged a.state.now a.window a.nodes (min a.nodes l.k) (omega (arith, l.invariant.0))
+    l.invariant.1 ∙ all_aged a.state.now a.window a.nodes (min a.nodes l.k) (omega arith)

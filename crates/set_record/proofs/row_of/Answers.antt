@@ -1,12 +1,9 @@
--- The plan in 592 bytes, or the all-zero record's. Assumes nothing.
-use mathlib.Core.Path.{ap, ◌∙◌}
-use Rattle.set_plan.specs.declared.Plan.{Plan}
-use Rattle.set_plan.specs.Find.{find_row}
-use Rattle.set_record.proofs.Records.{record_in, no_row}
+use borrow.Author.Rules.{rules}
+use Rattle.base_lists.specs.Bounded.{first_to}
+use Rattle.set_plan.specs.Record.{zero_plan}
+use Rattle.set_plan.specs.Find.{find_row, row_among}
 use Rattle.set_record.proofs.row_of.Goals as goal
 
-pub returns-then-bytes-eq-LENGTH : goal.returns-then-bytes-eq-LENGTH
-returns-then-bytes-eq-LENGTH c = c.row_in.ensures ∙ ap (λ (p : Plan). find_row p c.args.reqid) (record_in _ c.if-bytes-eq-LENGTH.true)
-
-pub returns-else-bytes-eq-LENGTH : goal.returns-else-bytes-eq-LENGTH
-returns-else-bytes-eq-LENGTH c = no_row _ _ c.if-bytes-eq-LENGTH.false
+pub returns : goal.returns
+unfolding zero_plan find_row row_among first_to
+returns c = search rules

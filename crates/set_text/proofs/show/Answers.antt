@@ -1,6 +1,6 @@
--- What was appended, as far as there is room. Assumes nothing.
+-- The counts of a read set are few.
 use Rattle.set_text.proofs.ShownSets.{counts_few}
 use Rattle.set_text.proofs.show.Goals as goal
 
-pub append_result-end-requires : goal.append_result-end-requires
-append_result-end-requires c = rw c.read-result.ensures (counts_few _)
+pub append_result-requires : goal.append_result-requires
+append_result-requires c = rw c.read.ensures (counts_few _)

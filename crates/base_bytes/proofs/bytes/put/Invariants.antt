@@ -1,12 +1,7 @@
 -- Each byte so far is stored; what lies past the end changes nothing. Assumes nothing.
-use Prim.Native.Nat.{◌-◌, ◌≤◌}
-use mathlib.Core.Path.{◌≡◌}
-use lib.ListN.{length, take}
-use lib.Seq.{sets}
+use Rattle.std.proofs.Common.{◌≡◌, length, take}
+use Rattle.std.proofs.lemmas.List.Edits.{sets}
 use Rattle.base_bytes.proofs.bytes.put.Given as goal
 
 abbrev pub invariant-loop-i : goal.invariant-loop-i
-invariant-loop-i l = (l.i ≤ l.within) × (l.within ≤ length l.source) × (length l.buffer ≡ length l.initial.buffer) × (l.buffer ≡ sets l.initial.buffer l.start (take l.i l.source))
-
-abbrev pub decreases-loop-i : goal.decreases-loop-i
-decreases-loop-i l = l.within - l.i
+invariant-loop-i l = (length l.buffer ≡ length l.initial.buffer) × (l.buffer ≡ sets l.initial.buffer l.start (take l.i l.source))

@@ -1,10 +1,9 @@
--- The flags passed are those of the mask. Assumes nothing.
-use mathlib.Core.Bool.{false}
-use native.Mathlib.Omega.{arith}
-use Rattle.base_lists.proofs.Tables.{tab_of}
-use Rattle.bus_moves.specs.Decoding.{flags}
+-- By the calls of the closure. Assumes nothing.
+use Rattle.std.proofs.Common.{false, rules}
+use Rattle.base_lists.proofs.Made.{made}
+use Rattle.bus_moves.specs.Decoding.{bit_of, flags}
 use Rattle.bus_moves.proofs.decoding.flags.Goals as goal
 
 pub returns : goal.returns
 unfolding flags
-returns c = tab_of false 16 _ _ c.loop-i.invariant.1 (λ k p. c.loop-i.invariant.2 k (omega arith))
+returns c = made _ false (bit_of c.args.mask) _ _ 16 (λ k y q h w. search rules) c.from_fn.ensures.items

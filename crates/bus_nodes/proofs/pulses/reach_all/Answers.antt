@@ -1,7 +1,7 @@
 -- The nodes passed have received the message where it reached them. Assumes nothing.
 use mathlib.Core.Path.{sym, ◌∙◌}
 use mathlib.Core.Bool.{false}
-use native.Mathlib.Omega.{arith}
+use borrow.Author.Rules.{rules}
 use lib.ListN.{get_or}
 use lib.Seq.{set-get_or}
 use Rattle.bus_nodes.specs.Nodes.{no_node}
@@ -15,7 +15,7 @@ loop-i-preserved-then-untouched c =
     let a = c.args in
     let node = get_or at.nodes at.i no_node in
     let still = untouched_still (get_or a.reached at.i false) a.message at.i node (sym c.untouched.ensures ∙ c.if-untouched.true) in
-    (omega arith, omega arith, at.invariant.2, at.invariant.3, sym (set-get_or at.nodes at.i no_node) ∙ each_more _ _ _ _ node no_node at.invariant.4 (sym still))
+    (at.invariant.0, sym (set-get_or at.nodes at.i no_node) ∙ each_more _ _ _ _ node no_node at.invariant.1 (sym still))
 
 pub loop-i-preserved : goal.loop-i-preserved
 loop-i-preserved c =
@@ -23,4 +23,4 @@ loop-i-preserved c =
     let a = c.args in
     let node = get_or at.nodes at.i no_node in
     let touched = touched_receives (get_or a.reached at.i false) a.message at.i node (sym c.untouched.ensures ∙ c.if-untouched.false) in
-    (omega arith, omega arith, at.invariant.2, at.invariant.3, each_more _ _ _ _ _ no_node at.invariant.4 (c.receive.ensures ∙ sym touched))
+    (search rules, each_more _ _ _ _ _ no_node at.invariant.1 (c.receive.ensures ∙ sym touched))

@@ -1,12 +1,8 @@
 -- The nodes passed have received the message where it reached them. Assumes nothing.
-use Prim.Native.Nat.{◌-◌, ◌≤◌}
 use mathlib.Core.Path.{◌≡◌}
 use lib.ListN.{length}
 use Rattle.bus_nodes.specs.Pulses.{reach_all}
 use Rattle.bus_nodes.proofs.pulses.reach_all.Given as goal
 
 abbrev pub invariant-loop-i : goal.invariant-loop-i
-invariant-loop-i l = (l.i ≤ l.count) × (l.count ≤ 16) × (length l.initial.nodes ≡ 16) × (length l.reached ≡ 16) × (l.nodes ≡ reach_all l.message l.reached l.i l.initial.nodes)
-
-abbrev pub decreases-loop-i : goal.decreases-loop-i
-decreases-loop-i l = l.count - l.i
+invariant-loop-i l = (length l.nodes ≡ 16) × (l.nodes ≡ reach_all l.message l.reached l.i l.initial.nodes)

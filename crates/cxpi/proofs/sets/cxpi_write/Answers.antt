@@ -3,6 +3,5 @@ use native.Mathlib.Omega.{arith}
 use Rattle.cxpi.proofs.Calls.{result_short}
 use Rattle.cxpi.proofs.sets.cxpi_write.Goals as goal
 
--- src/sets.rt:23:13
 pub overflow_cast-size : goal.overflow_cast-size
-overflow_cast-size c = omega (arith, result_short _ _ _ c.write_record-answer.ensures.0)
+overflow_cast-size c = omega (arith, result_short _ _ _ c.in-Ok.ensures.0)

@@ -6,4 +6,4 @@ use Rattle.machine_master.proofs.causes.all_woken.Goals as goal
 
 pub returns : goal.returns
 unfolding all_woken
-returns c = tab_of 0 16 _ _ c.loop-i.invariant.3 (λ k p. c.loop-i.invariant.4 k (omega arith))
+returns c = tab_of 0 16 _ _ c.loop-i.invariant.0 (λ k p. c.loop-i.invariant.1 k (omega arith))

@@ -7,4 +7,4 @@ use Rattle.machine_master.proofs.holds.all_older.Goals as goal
 
 pub returns : goal.returns
 unfolding all_older
-returns c = tab_of no_hold 16 _ _ c.loop-i.invariant.2 (λ k p. c.loop-i.invariant.3 k (omega arith))
+returns c = tab_of no_hold 16 _ _ c.loop-i.invariant.0 (λ k p. c.loop-i.invariant.1 k (omega arith))

@@ -1,11 +1,8 @@
 -- Each permission so far is held. Assumes nothing.
-use Rattle.std.proofs.Common.{◌≡◌, ◌-◌, ◌≤◌, false, length}
+use Rattle.std.proofs.Common.{◌≡◌, false}
 use Rattle.base_lists.specs.Bounded.{any_to}
 use Rattle.machine_master.specs.Sleeping.{not_held}
 use Rattle.machine_master.proofs.holds.first_not_held.Given as goal
 
 abbrev pub invariant-loop-i : goal.invariant-loop-i
-invariant-loop-i l = (l.i ≤ l.nodecount) × (length l.holds ≡ 16) × (any_to (not_held l.holds) l.i ≡ false)
-
-abbrev pub decreases-loop-i : goal.decreases-loop-i
-decreases-loop-i l = l.nodecount - l.i
+invariant-loop-i l = any_to (not_held l.holds) l.i ≡ false

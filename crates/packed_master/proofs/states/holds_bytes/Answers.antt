@@ -6,4 +6,4 @@ use Rattle.packed_master.proofs.states.holds_bytes.Goals as goal
 
 pub returns : goal.returns
 unfolding holds_bytes
-returns c = tab_of 0 48 _ _ c.loop-k.invariant.1 (λ i p. c.loop-k.invariant.3 i (omega arith))
+returns c = tab_of 0 48 _ _ c.loop-k.invariant.0 (λ i p. c.loop-k.invariant.1 i (omega arith))

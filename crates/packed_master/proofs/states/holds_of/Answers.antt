@@ -7,4 +7,4 @@ use Rattle.packed_master.proofs.states.holds_of.Goals as goal
 
 pub returns : goal.returns
 unfolding holds_of
-returns c = tab_of no_hold 16 _ _ c.loop-k.invariant.1 (λ i p. c.loop-k.invariant.2 i (omega arith))
+returns c = tab_of no_hold 16 _ _ c.loop-k.invariant.0 (λ i p. c.loop-k.invariant.1 i (omega arith))

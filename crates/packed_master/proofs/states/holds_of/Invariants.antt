@@ -1,5 +1,5 @@
 -- The places passed hold what the definition says. Assumes nothing.
-use Prim.Native.Nat.{ℕ, ◌<◌, ◌≤◌, ◌-◌}
+use Prim.Native.Nat.{ℕ, ◌<◌}
 use mathlib.Core.Path.{◌≡◌}
 use lib.ListN.{length, get_or}
 use Rattle.machine_master.specs.Changes.{no_hold}
@@ -7,7 +7,4 @@ use Rattle.packed_master.specs.States.{hold_of}
 use Rattle.packed_master.proofs.states.holds_of.Given as goal
 
 abbrev pub invariant-loop-k : goal.invariant-loop-k
-invariant-loop-k l = (l.k ≤ 16) × (length l.holds ≡ 16) × ((i : ℕ) → i < l.k → get_or l.holds i no_hold ≡ hold_of l.bytes i)
-
-abbrev pub decreases-loop-k : goal.decreases-loop-k
-decreases-loop-k l = 16 - l.k
+invariant-loop-k l = (length l.holds ≡ 16) × ((i : ℕ) → i < l.k → get_or l.holds i no_hold ≡ hold_of l.bytes i)

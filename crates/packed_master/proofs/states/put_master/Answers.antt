@@ -8,4 +8,4 @@ use Rattle.packed_master.proofs.states.put_master.Goals as goal
 pub returns : goal.returns
 returns c =
     let long : length c.args.master.counts ≡ 128 = search rules in
-    master_put _ long _ _ _ _ _ _ _ c.master_head-head.ensures c.holds_bytes-permissions.ensures c.put.ensures c.put-2.ensures c.put-3.ensures c.put-4.ensures
+    master_put _ long _ _ _ _ _ _ _ c.master_head.ensures c.holds_bytes.ensures c.put.ensures c.put-2.ensures c.put-3.ensures c.put-4.ensures

@@ -7,7 +7,7 @@ use Rattle.set_writer.proofs.set_blocks.rows_in_block.Goals as goal
 
 pub returns-then-b-eq1 : goal.returns-then-b-eq1
 unfolding rows_in_block
-returns-then-b-eq1 c = (rw (eq-eqb c.args.b 1 (omega arith)) c.least-first.ensures, search rules, search rules)
+returns-then-b-eq1 c = (rw (eq-eqb c.args.b 1 (omega arith)) c.min-first.ensures, search rules, search rules)
 
 pub returns-else-b-eq1 : goal.returns-else-b-eq1
 unfolding rows_in_block

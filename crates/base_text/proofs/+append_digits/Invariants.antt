@@ -1,5 +1,0 @@
--- The places left fall with each call.
-use Rattle.base_text.proofs.+append_digits.Given as goal
-
-abbrev pub decreases-append_digits : goal.decreases-append_digits
-decreases-append_digits l = l.places
