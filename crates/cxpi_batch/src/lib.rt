@@ -16,7 +16,7 @@ use machine_master::Event;
 use packed_master::{master_of, put_master, step_on};
 use packed_master_steps::step_in_place;
 
-// The number that plan and state give every event. Where it is 0 the state's bytes are those that its master is packed in.
+// Judges plan and state once for all events. Where nothing is refused, the state's bytes are those that its master is packed in.
 fn judge(plan: &[u8], state: &[u8]) -> Result<(), Refusal>
     ensures { (number_of result ≡ standing (record_of plan.now) (master_of state.now))
         × (state.now ≡ left_under (number_of result) state.now (master_of state.now)) }

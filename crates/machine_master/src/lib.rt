@@ -92,7 +92,7 @@ pub struct Master {
     pub ticks: u32,
 }
 
-// What a step gives. No Result: a refused step hands back the master too ("returns the state as given and no command").
+// What a step gives. No Result: a refused step hands back a master too, which a damaged answer or one of a wrong length has changed.
 #[derive(Clone, Copy)]
 pub struct Reply {
     pub master: Master,
