@@ -7,7 +7,7 @@ MODULE is the module that rattle hands to clang, as text. HEADER declares the ex
 which the two lines `target ..` are taken. OUT is the module retargeted, each function with the attributes given (optsize).
 
 The code stays as it is: usize has 64 bits, and a place has the size and the offsets that it has on x86-64, where a pointer fills
-the first four of its eight bytes. What changes: the target, three attributes that are x86-64's, names with `::`, which get a dot for it, places
+the first four of its eight bytes. What changes: the target, four attributes that are x86-64's, names with `::`, which get a dot for it, places
 of one pointer, which are made eight bytes long, records, which are read part by part where x86-64 has the parts, and the lengths of the exported functions,
 which become 32 bits wide (`size_t`) and are extended by zeros on entry.
 
@@ -49,7 +49,7 @@ FORMS = {kind: re.compile(form) for kind, form in {
     'trap': r'call void @llvm\.trap\(\)|unreachable',
     'label': r'[\w.]+:',
 }.items()}
-DEFINE = re.compile(rf'define (internal )?(?:noundef )?(zeroext )?(void|{RESULT}) ({NAME})\((.*)\) #0 {{')
+DEFINE = re.compile(rf'define (internal )?(?:noundef )?(zeroext )?(void|{RESULT}) ({NAME})\((.*)\) (#\d+) {{')
 PARAMETER = re.compile(rf'(ptr|{NUMBER}) (?:noundef )?(?:zeroext )?({REGISTER})')
 ARGUMENT = re.compile(rf'(ptr|{NUMBER}) ({VALUE})')
 X86_64 = {
@@ -65,7 +65,8 @@ OUTSIDE_LINES = [re.compile(form) for form in (
     r'!0 = !{!"rattle logic=[0-9a-f]+"}',
     r'!\d+ = !{(?:i\d+ -?\d+, i\d+ -?\d+)?}',
 )]
-OWN_ATTRIBUTES = 'attributes #0 = { nounwind "probe-stack"="inline-asm" "stack-probe-size"="3072" "target-cpu"="x86-64-v2" }'
+# Of the module's own functions. `noinline` keeps x86-64's stack small, and goes: on a controller a call that is one function takes less.
+OWN_ATTRIBUTES = re.compile(r'attributes (#\d+) = { (?:noinline )?nounwind "probe-stack"="inline-asm" "stack-probe-size"="3072" "target-cpu"="x86-64-v2" }')
 POINTER = 8  # bytes of a pointer in a place
 BYTES = {'i1': 1, 'i8': 1, 'i16': 2, 'i32': 4, 'i64': 8}
 C_TYPES = {'uint8_t': 'i8', 'uint16_t': 'i16', 'uint32_t': 'i32', 'size_t': 'i64', 'void': 'void'}
@@ -92,7 +93,7 @@ def parsed(index, line):
 
 def read_functions(lines):
     """The functions by name; a line of any other form is refused."""
-    functions, body = {}, None
+    functions, groups, own, others, body = {}, set(), [], set(), None
     for index, line in enumerate(lines):
         if body is not None:
             if line == '}':
@@ -106,10 +107,15 @@ def read_functions(lines):
             if None in parameters or define[4] in functions:
                 raise Refused(f'line {index + 1}: {line}')
             body = []
+            groups.add(define[6])
             functions[define[4]] = Function(index, not define[1], (define[2] or '') + define[3], [each.groups() for each in parameters], body)
-        elif line not in X86_64 and line != OWN_ATTRIBUTES and not any(form.fullmatch(line) for form in OUTSIDE_LINES):
+        elif OWN_ATTRIBUTES.fullmatch(line):
+            own.append(OWN_ATTRIBUTES.fullmatch(line)[1])
+        elif line in X86_64 or any(form.fullmatch(line) for form in OUTSIDE_LINES):
+            others.update(re.findall(r'#\d+', line))
+        else:
             raise Refused(f'line {index + 1}: {line}')
-    if body is not None or not X86_64.issubset(lines) or lines.count(OWN_ATTRIBUTES) != 1:
+    if body is not None or not X86_64.issubset(lines) or not own or sorted(groups) != sorted(own) or groups & others:
         raise Refused('no whole module for x86-64')
     return functions
 
@@ -395,9 +401,9 @@ def retargeted(lines, functions, target_lines, attributes):
             if kind == 'i64':
                 lines[function.head] = re.sub(rf'i64 noundef {register}\b', f'i32 noundef {register}.length', lines[function.head])
                 lines[function.head + 1] += f'\n  {register} = zext i32 {register}.length to i64'
-    own = lines.index(OWN_ATTRIBUTES)
-    lines[own] = f'attributes #0 = {{ {" ".join([*attributes, "nounwind"])} }}'
-    text = '\n'.join(target_lines + [line for line in lines if line is not None and line not in X86_64]) + '\n'
+    kept = [line for line in lines if line is not None and line not in X86_64]
+    own = ' '.join([*attributes, 'nounwind'])
+    text = '\n'.join(target_lines + [OWN_ATTRIBUTES.sub(rf'attributes \1 = {{ {own} }}', line) for line in kept]) + '\n'
     # An assembler for RISC-V calls no name in quotes.
     return re.sub(r'@"([\w:]+)"', lambda name: '@' + name[1].replace('::', '.'), text)
 

@@ -107,7 +107,7 @@ start:
   ret void
 }
 
-define internal i8 @"total::choice"(ptr noundef %c0, i1 noundef %c1) #0 {
+define internal i8 @"total::choice"(ptr noundef %c0, i1 noundef %c1) #4 {
 start:
   %c2 = alloca [6 x i8], align 1
   call void @llvm.memset.p0.i64(ptr %c2, i8 0, i64 6, i1 false)
@@ -159,6 +159,7 @@ attributes #0 = { nounwind "probe-stack"="inline-asm" "stack-probe-size"="3072" 
 attributes #1 = { nocallback nofree nounwind willreturn memory(argmem: readwrite) }
 attributes #2 = { nocallback nofree nounwind willreturn memory(argmem: write) }
 attributes #3 = { cold noreturn nounwind memory(inaccessiblemem: write) }
+attributes #4 = { noinline nounwind "probe-stack"="inline-asm" "stack-probe-size"="3072" "target-cpu"="x86-64-v2" }
 
 !llvm.ident = !{!0}
 
@@ -184,13 +185,14 @@ GONE = [
     'define internal { i8, i64, i16 } @"total::limits"(i8 noundef %a0, i16 %a1) #0 {',
     '  %r1 = load { i8, i64, i16 }, ptr %r0, align 8',
     'define internal void @"total::pair"(ptr noundef %p0, i8 noundef %p1) #0 {',
-    'define internal i8 @"total::choice"(ptr noundef %c0, i1 noundef %c1) #0 {',
+    'define internal i8 @"total::choice"(ptr noundef %c0, i1 noundef %c1) #4 {',
     '  call void @llvm.memset.p0.i64(ptr %c2, i8 0, i64 6, i1 false)',
     '  call void @"total::pair"(ptr %c2, i8 7)',
     'define noundef i32 @total_of(ptr noundef %a0, i64 noundef %a1, ptr noundef %a2, i8 noundef %a3) #0 {',
     '  %r3 = call { i8, i64, i16 } @"total::limits"(i8 %a3, i16 0)',
     '  call void @"total::add"(ptr %r0, ptr %a2, i8 %a3)',
     'attributes #0 = { nounwind "probe-stack"="inline-asm" "stack-probe-size"="3072" "target-cpu"="x86-64-v2" }',
+    'attributes #4 = { noinline nounwind "probe-stack"="inline-asm" "stack-probe-size"="3072" "target-cpu"="x86-64-v2" }',
 ]
 COME = [
     'target datalayout = "e-m:e-p:32:32-Fi8-i64:64-v128:64:128-a:0:32-n32-S64"',
@@ -210,13 +212,14 @@ COME = [
     '  %r1.part2 = load i16, ptr %r1.at2, align 8',
     '  %r1 = insertvalue { i8, i64, i16 } %r1.with1, i16 %r1.part2, 2',
     'define internal void @total.pair(ptr noundef %p0, i8 noundef %p1) #0 {',
-    'define internal i8 @total.choice(ptr noundef %c0, i1 noundef %c1) #0 {',
+    'define internal i8 @total.choice(ptr noundef %c0, i1 noundef %c1) #4 {',
     '  call void @total.pair(ptr %c2, i8 7)',
     'define noundef i32 @total_of(ptr noundef %a0, i32 noundef %a1.length, ptr noundef %a2, i8 noundef %a3) #0 {',
     '  %a1 = zext i32 %a1.length to i64',
     '  %r3 = call { i8, i64, i16 } @total.limits(i8 %a3, i16 0)',
     '  call void @total.add(ptr %r0, ptr %a2, i8 %a3)',
     'attributes #0 = { optsize nounwind }',
+    'attributes #4 = { optsize nounwind }',
 ]
 
 SLICE = '  store ptr %n3, ptr %r0, align 8\n'
@@ -255,7 +258,14 @@ MODULE_EDITS = [
     ('a constant', 'source_filename = "rattle"', 'source_filename = "rattle"\n@g = constant [2 x ptr] zeroinitializer', FORM + '@g'),
     ('a type', 'source_filename = "rattle"', 'source_filename = "rattle"\n%t = type { ptr }', FORM + '%t'),
     ('a declared function', 'declare void @llvm.trap() #3', 'declare void @llvm.trap() #3\ndeclare void @puts(ptr) #3', FORM + 'declare'),
-    ('another attribute of functions', '"target-cpu"="x86-64-v2" }', '"target-cpu"="x86-64-v2" "frame-pointer"="all" }', FORM + 'attributes'),
+    ('another attribute of functions', '#0 = { nounwind "probe', '#0 = { nounwind "frame-pointer"="all" "probe', FORM + 'attributes'),
+    ('another beside noinline', '#4 = { noinline nounwind', '#4 = { noinline optnone nounwind', FORM + 'attributes'),
+    ('a function of an intrinsic\'s attributes', '@total_version() #0', '@total_version() #3', 'no whole module'),
+    ('a function of no attributes', '@total_version() #0', '@total_version() #9', 'no whole module'),
+    ('attributes that no function has', 'i1 noundef %c1) #4', 'i1 noundef %c1) #0', 'no whole module'),
+    ('the same attributes twice', 'attributes #4 = { noinline nounwind', 'attributes #0 = { noinline nounwind', 'no whole module'),
+    ('attributes of an intrinsic under the number of a function\'s', 'attributes #3 = {', 'attributes #4 = {', 'no whole module'),
+    ('an intrinsic of a function\'s attributes', '@llvm.trap() #3', '@llvm.trap() #4', 'no whole module'),
     ('a flag of the module', '!1 = !{}', '!1 = !{}\n!llvm.module.flags = !{!2}', FORM + '!llvm.module.flags'),
     ('another source', 'source_filename = "rattle"', 'source_filename = "other"', FORM + 'source_filename'),
     ('another target', 'x86_64-unknown-linux-gnu', 'aarch64-unknown-linux-gnu', FORM + 'target triple'),
@@ -420,7 +430,7 @@ def test_calls(module, header):
     with open(header, encoding='utf-8') as file:
         after = made(before, file.read(), TARGET).splitlines()
     kept = {re.sub(r'@"([\w:]+)"', lambda name: '@' + name[1].replace('::', '.'), line) for line in retarget.read_lines(before)}
-    new = [line for line in after if line not in kept and not line.startswith(('define ', 'target ', 'attributes #0 '))]
+    new = [line for line in after if line not in kept and not line.startswith(('define ', 'target ')) and not line.endswith(' = { optsize nounwind }')]
     parts = re.compile(r'  %[\w.]+ = (?:getelementptr i8, ptr %\w+, i64 \d+|load i\d+, ptr %\w+\.at\d+, align \d+|insertvalue {[^}]*} (?:poison|%[\w.]+), i\d+ %\w+\.part\d+, \d+)')
     if any('= alloca [8 x i8], align' not in line and '.length to i64' not in line and not parts.fullmatch(line) for line in new):
         wrong.append('a line of the C calls is changed that should not be')

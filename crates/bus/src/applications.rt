@@ -12,7 +12,7 @@ impl World {
         ensures { result ≡ node_wake_ask sleeps (nodes_used nodecount) node bus self }
     {
         if nodes_used(nodecount) <= node {
-            return stays(self, Refusal::NoState);
+            return stays(self, Refusal::NoState.number());
         }
         let reply = self.nodes[node as usize].wake_ask(sleeps);
         let callers = with_caller(Callers::Nobody, node, reply.command);
@@ -48,7 +48,7 @@ impl World {
         ensures { result ≡ node_permission sleeps (nodes_used nodecount) node permitted self }
     {
         if nodes_used(nodecount) <= node {
-            return stays(self, Refusal::NoState);
+            return stays(self, Refusal::NoState.number());
         }
         let reply = self.nodes[node as usize].permit(sleeps, permitted);
         self.nodes[node as usize] = reply.node;

@@ -2,7 +2,6 @@
 #![tactic(auto)]
 
 ghost use Rattle.std.specs.Prelude.{◌≡◌};
-ghost use Rattle.base_refusals.specs.Numbers.{number};
 ghost use Rattle.bus.specs.World.{power_on, stays};
 ghost use Rattle.bus.specs.Moves.{world_act, world_step};
 
@@ -131,12 +130,12 @@ pub struct Delivered {
 }
 
 // A move that changes nothing.
-pub fn stays(world: World, refusal: Refusal) -> Moved
-    ensures { result ≡ stays world (number refusal) }
+pub fn stays(world: World, refusal: u8) -> Moved
+    ensures { result ≡ stays world refusal }
 {
     Moved {
         world,
-        refusal: refusal.number(),
+        refusal,
         passed: Passed::nothing(),
     }
 }
@@ -177,10 +176,10 @@ impl World {
         ensures { result ≡ world_step plan self movement }
     {
         if let Err(refusal) = judge(plan) {
-            return stays(self, refusal);
+            return stays(self, refusal.number());
         }
         if !self.in_range(plan.sleeps(), plan.nodecount, plan.times) {
-            return stays(self, Refusal::NoState);
+            return stays(self, Refusal::NoState.number());
         }
         self.act(plan, movement)
     }

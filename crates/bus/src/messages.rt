@@ -150,10 +150,10 @@ impl World {
         ensures { result ≡ request_move plan (nodes_used plan.nodecount) reqid bus self }
     {
         if let Err(refusal) = judge_message(reqid, bus.fate, self.master.state) {
-            return stays(self, refusal);
+            return stays(self, refusal.number());
         }
         match set_plan::find_row(plan, reqid) {
-            None => stays(self, Refusal::NoReqId),
+            None => stays(self, Refusal::NoReqId.number()),
             Some(row) => self.publish(plan.nodecount, row, bus),
         }
     }
@@ -180,13 +180,13 @@ impl World {
         ensures { result ≡ send_ask_move plan (nodes_used plan.nodecount) node reqid bus self }
     {
         if nodes_used(plan.nodecount) <= node {
-            return stays(self, Refusal::NoState);
+            return stays(self, Refusal::NoState.number());
         }
         if let Err(refusal) = judge_message(reqid, bus.fate, self.master.state) {
-            return stays(self, refusal);
+            return stays(self, refusal.number());
         }
         match set_plan::find_row(plan, reqid) {
-            None => stays(self, Refusal::NoReqId),
+            None => stays(self, Refusal::NoReqId.number()),
             Some(row) => self.send(node, plan.is_polled(node), row, bus.fate),
         }
     }
@@ -210,11 +210,7 @@ impl World {
     {
         let reply = self.master.send_result(sent);
         if reply.refusal != 0 {
-            return Moved {
-                world: self,
-                refusal: reply.refusal,
-                passed: Passed::nothing(),
-            };
+            return stays(self, reply.refusal);
         }
         Moved {
             world: World {

@@ -8,7 +8,7 @@ use Rattle.machine_master.specs.Changes.{all_woken}
 use Rattle.machine_master.specs.Sleeping.{not_held}
 use Rattle.machine_master.specs.Ticks.{all_older, all_aged_out}
 use Rattle.machine_reason.specs.declared.Cause.{Cause}
-use Rattle.machine_reason.specs.Reasons.{Explained}
+use Rattle.machine_reason.specs.declared.Explained.{Explained}
 use Rattle.machine_reason.specs.declared.Reason.{Reason}
 use Rattle.machine_reason.specs.Reasons.{explained_by, refused}
 use Rattle.bus.specs.declared.Act.{Act}

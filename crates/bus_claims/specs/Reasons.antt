@@ -7,7 +7,7 @@ use Rattle.machine_master.specs.declared.Answer.{Answer}
 use Rattle.set_plan.specs.Profile.{sleeps}
 use Rattle.machine_master.specs.Answers.{is_whole}
 use Rattle.machine_reason.specs.declared.Cause.{Cause}
-use Rattle.machine_reason.specs.Reasons.{Explained}
+use Rattle.machine_reason.specs.declared.Explained.{Explained}
 use Rattle.machine_reason.specs.declared.Reason.{Reason}
 use Rattle.machine_reason.specs.Reasons.{explained_by, refused, explain}
 use Rattle.bus.specs.declared.Move.{Move}

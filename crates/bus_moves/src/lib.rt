@@ -48,13 +48,13 @@ pub fn step(plan: Plan, world: World, bytes: &[u8]) -> Moved
     ensures { result ≡ step_of plan world bytes.now }
 {
     if let Err(refusal) = judge(plan) {
-        return stays(world, refusal);
+        return stays(world, refusal.number());
     }
     if !world.in_range(plan.sleeps(), plan.nodecount, plan.times) {
-        return stays(world, Refusal::NoState);
+        return stays(world, Refusal::NoState.number());
     }
     if !is_move(bytes) {
-        return stays(world, Refusal::NoEvent);
+        return stays(world, Refusal::NoEvent.number());
     }
     world.act(plan, move_of(bytes))
 }

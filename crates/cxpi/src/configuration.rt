@@ -17,8 +17,8 @@ pub fn cxpi_node_configure(
         × (response.new ≡ configure_leaves identity.now request.now response.old)
         × (written.new ≡ (configure_reply identity.now address.old request.now (length response.old)).length) }
 {
-    *written = 0;
     if identity.len() != machine_node_configuration::IDENTITY_LENGTH {
+        *written = 0;
         return Refusal::NoState.number() as u32;
     }
     match configure(identity_of(identity), *address, request, response) {
@@ -27,6 +27,9 @@ pub fn cxpi_node_configure(
             *written = done.length;
             0
         }
-        Err(refusal) => refusal.number() as u32,
+        Err(refusal) => {
+            *written = 0;
+            refusal.number() as u32
+        }
     }
 }

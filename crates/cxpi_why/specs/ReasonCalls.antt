@@ -6,7 +6,7 @@ use Rattle.set_plan.specs.Profile.{sleeps}
 use Rattle.set_plan.specs.Rules.{plan_refusal}
 use Rattle.set_record.specs.Record.{record_of}
 use Rattle.packed_master.specs.States.{master_of}
-use Rattle.machine_reason.specs.Reasons.{Explained}
+use Rattle.machine_reason.specs.declared.Explained.{Explained}
 use Rattle.machine_reason.specs.declared.Reason.{Reason}
 use Rattle.machine_reason.specs.Numbers.{reason_numbers}
 use Rattle.machine_reason.specs.Reasons.{refused, explain_with}

@@ -2,7 +2,7 @@
 use Rattle.std.specs.Prelude.{ℕ, List, ◌++◌, eqb}
 use Rattle.base_lists.specs.Bounded.{if_else}
 use Rattle.machine_reason.specs.declared.Cause.{Cause}
-use Rattle.machine_reason.specs.Reasons.{Explained}
+use Rattle.machine_reason.specs.declared.Explained.{Explained}
 use Rattle.machine_reason.specs.declared.Reason.{Reason}
 use Rattle.base_text.specs.Text.{ascii, decimal}
 

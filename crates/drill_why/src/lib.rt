@@ -3,12 +3,10 @@
 
 ghost use Rattle.std.specs.Prelude.{◌≡◌, ◌++◌};
 ghost use Rattle.base_text.specs.Text.{wrote, ascii, decimal};
-ghost use Rattle.machine_reason.specs.Reasons.{explained};
 ghost use Rattle.drill_why.specs.Line.{cause_word, reason_word, why_word, why_line};
 
-use base_refusals::Refusal;
 use base_text::Writer;
-use machine_reason::{Cause, Reason};
+use machine_reason::{Cause, Explained, Reason};
 
 #[tactic(auto, using(base_text::proofs::Appends::writing), unfolding(crate::specs::Line::cause_word))]
 fn append_cause(out: &mut Writer<'_>, cause: Cause)
@@ -47,20 +45,22 @@ fn append_reason(out: &mut Writer<'_>, reason: Reason)
 }
 
 #[tactic(auto, using(base_text::proofs::Appends::writing), unfolding(crate::specs::Line::why_word))]
-fn append_word(out: &mut Writer<'_>, why: Result<Reason, Refusal>)
-    ensures { out.new ≡ wrote (why_word (explained why)) out.old }
+fn append_word(out: &mut Writer<'_>, explained: Explained)
+    ensures { out.new ≡ wrote (why_word explained) out.old }
 {
-    match why {
-        Ok(reason) => append_reason(out, reason),
-        Err(refusal) => out.decimal(u64::from(refusal.number())),
+    if explained.refusal == 0 {
+        append_reason(out, explained.reason);
+    } else {
+        out.decimal(u64::from(explained.refusal));
     }
 }
 
+// Any number can be told, also one that names no refusal.
 #[tactic(auto, using(base_text::proofs::Appends::writing), unfolding(crate::specs::Line::why_line))]
-pub fn append_why(out: &mut Writer<'_>, why: Result<Reason, Refusal>)
-    ensures { out.new ≡ wrote (why_line (explained why)) out.old }
+pub fn append_why(out: &mut Writer<'_>, explained: Explained)
+    ensures { out.new ≡ wrote (why_line explained) out.old }
 {
     out.append(b"why ");
-    append_word(out, why);
+    append_word(out, explained);
     out.append(b"\n");
 }

@@ -2,10 +2,9 @@
 #![tactic(auto)]
 
 ghost use Rattle.std.specs.Prelude.{◌≡◌};
-ghost use Rattle.base_refusals.specs.Numbers.{number_of};
 ghost use Rattle.machine_batch.specs.Batch.{stepped_by, batch_told, batch_of, batch_replies};
 
-use base_refusals::Refusal;
+use base_refusals::{Refusal, number_of};
 use machine_events::{EventRecord, ReplyRecord, command_number, event_of};
 use machine_master::Master;
 use set_plan::{Plan, judge};
@@ -17,17 +16,12 @@ pub struct Stepped {
     pub reply: ReplyRecord,
 }
 
-// A step by an event record under a plan whose judgement is known.
+// A step by an event record under a plan whose refusal is known.
 #[tactic(auto, unfolding(crate::specs::Batch::stepped_by))]
-fn step_record(
-    judged: Result<(), Refusal>,
-    plan: Plan,
-    master: Master,
-    event: EventRecord,
-) -> Stepped
-    ensures { result ≡ stepped_by (number_of judged) plan master event }
+fn step_record(refusal: u8, plan: Plan, master: Master, event: EventRecord) -> Stepped
+    ensures { result ≡ stepped_by refusal plan master event }
 {
-    let reply = master.step_judged(judged, plan, event_of(event));
+    let reply = master.step_judged(refusal, plan, event_of(event));
     Stepped {
         master: reply.master,
         reply: ReplyRecord {
@@ -50,10 +44,10 @@ pub fn run(
         × (replies.new ≡ batch_replies plan master events.now replies.old) }
 {
     Refusal::RepliesShort.unless(events.len() <= replies.len())?;
-    let judged = judge(plan);
+    let refusal = number_of(judge(plan));
     let mut current = master;
     for (i, event) in events.iter().enumerate() {
-        let s = step_record(judged, plan, current, *event);
+        let s = step_record(refusal, plan, current, *event);
         current = s.master;
         replies[i] = s.reply;
     }

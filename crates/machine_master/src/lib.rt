@@ -2,11 +2,11 @@
 #![tactic(auto)]
 
 ghost use Rattle.std.specs.Prelude.{◌≡◌};
-ghost use Rattle.base_refusals.specs.Numbers.{number, number_of};
+ghost use Rattle.base_refusals.specs.Numbers.{number};
 ghost use Rattle.machine_master.specs.Changes.{power_on, silent, commands, refuse};
 ghost use Rattle.machine_master.specs.Step.{event_right, reqid_asked, row_asked, act_with, step_in_range, step_with, step_under, judged_step, master_step};
 
-use base_refusals::Refusal;
+use base_refusals::{Refusal, number_of};
 use machine_state::{State, start_state};
 use set_plan::{Plan, Row, Times, judge};
 
@@ -261,13 +261,17 @@ impl Master {
         self.step_with(plan.sleeps(), plan.nodecount, times, row, event)
     }
 
-    // A step of the master under a plan whose judgement is known, so that a list of events has it judged once.
-    pub fn step_judged(self, judged: Result<(), Refusal>, plan: Plan, event: Event) -> Reply
-        ensures { result ≡ judged_step (number_of judged) plan self event }
+    // A step of the master under a plan whose refusal is known, 0 for none, so that a list of events has it judged once.
+    pub fn step_judged(self, refusal: u8, plan: Plan, event: Event) -> Reply
+        ensures { result ≡ judged_step refusal plan self event }
     {
-        match judged {
-            Ok(()) => self.step_under(plan, event),
-            Err(refusal) => refuse(self, refusal),
+        if refusal == 0 {
+            self.step_under(plan, event)
+        } else {
+            Reply {
+                refusal,
+                ..silent(self)
+            }
         }
     }
 
@@ -275,6 +279,6 @@ impl Master {
     pub fn step(self, plan: Plan, event: Event) -> Reply
         ensures { result ≡ master_step plan self event }
     {
-        self.step_judged(judge(plan), plan, event)
+        self.step_judged(number_of(judge(plan)), plan, event)
     }
 }

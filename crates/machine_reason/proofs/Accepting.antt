@@ -20,7 +20,7 @@ use Rattle.machine_master.specs.Range.{in_range}
 use Rattle.machine_master.specs.Sleeping.{not_held, missing, sleep_ask_by}
 use Rattle.machine_master.specs.Step.{master_step}
 use Rattle.machine_reason.specs.declared.Cause.{Cause}
-use Rattle.machine_reason.specs.Reasons.{Explained}
+use Rattle.machine_reason.specs.declared.Explained.{Explained}
 use Rattle.machine_reason.specs.declared.Reason.{Reason}
 use Rattle.machine_reason.specs.Reasons.{reason_by, explained_by, explain_by, explain}
 

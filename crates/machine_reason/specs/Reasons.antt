@@ -15,6 +15,7 @@ use Rattle.machine_master.specs.Range.{in_range}
 use Rattle.machine_master.specs.Sleeping.{not_held}
 use Rattle.machine_reason.specs.declared.Cause.{Cause}
 use Rattle.machine_reason.specs.declared.Reason.{Reason}
+use Rattle.machine_reason.specs.declared.Explained.{Explained}
 
 -- "never answered since Normal, refused, aged out, damaged, or dropped by a wake-up", as the master stores it
 abbrev pub cause_of : ℕ → Cause
@@ -39,11 +40,6 @@ reason_by true nodecount Phase.Open m = if_else m.permission (node_reason nodeco
 reason_by true nodecount Phase.Sending m = Reason.UnderWay
 reason_by true nodecount Phase.Withdrawn m = Reason.Owed
 reason_by true nodecount Phase.Closing m = Reason.UnderWay
-
--- the reason, or a refusal's number and no reason
-pub record Explained : Type 0 where
-  pub refusal : ℕ
-  pub reason : Reason
 
 abbrev pub explained_by : Reason → Explained
 explained_by reason = record { refusal = 0; reason = reason }

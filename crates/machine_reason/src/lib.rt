@@ -4,7 +4,7 @@
 ghost use Rattle.std.specs.Prelude.{◌≡◌, get_or};
 ghost use Rattle.machine_master.specs.Changes.{cause_new};
 ghost use Rattle.machine_reason.specs.Numbers.{cause_number, reason_numbers};
-ghost use Rattle.machine_reason.specs.Reasons.{cause_of, node_reason, reason_by, explained, explain_with, explain};
+ghost use Rattle.machine_reason.specs.Reasons.{cause_of, node_reason, reason_by, refused, explained, explain_with, explain};
 
 use base_refusals::Refusal;
 use machine_master::{Master, Phase, first_not_held};
@@ -31,6 +31,33 @@ pub enum Reason {
     Node { node: u8, cause: Cause },
     // the panel never sleeps (W-206)
     Profile,
+}
+
+// A reason, or a refusal's number and no reason, as the definitions have it. Any number can stand in it.
+#[derive(Clone, Copy)]
+pub struct Explained {
+    pub refusal: u8,
+    pub reason: Reason,
+}
+
+pub fn refused(refusal: u8) -> Explained
+    ensures { result ≡ refused refusal }
+{
+    Explained {
+        refusal,
+        reason: Reason::Nothing,
+    }
+}
+
+impl From<Result<Reason, Refusal>> for Explained {
+    ghost from_gives = { λ why told. told ≡ explained why };
+
+    fn from(why: Result<Reason, Refusal>) -> Explained {
+        match why {
+            Ok(reason) => Explained { refusal: 0, reason },
+            Err(refusal) => refused(refusal.number()),
+        }
+    }
 }
 
 fn stored_cause(causes: [u8; Plan::NODES], node: u8) -> u8

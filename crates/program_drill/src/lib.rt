@@ -10,7 +10,7 @@ use base_refusals::Refusal;
 use base_text::Writer;
 use drill_feed::Drill;
 use drill_why::append_why;
-use machine_reason::explain;
+use machine_reason::{Explained, explain};
 use program_files::{print, turns, with_plan};
 use set_plan::Plan;
 use std::io::Read;
@@ -19,8 +19,14 @@ use std::ops::ControlFlow;
 // Bytes of one read. Each gives at most 80 of text, and program_files' text room has 65,536 places.
 const READ_LENGTH: usize = 800;
 
-// Reads once, and prints what the bytes give, at the end of the input what a line gives that has not ended. The last drill comes back where
-// every line so far was printed.
+// A drill whose moves are over, and whether every line was printed.
+#[derive(Clone, Copy)]
+struct Last {
+    drill: Drill,
+    printed: bool,
+}
+
+// Reads once, and prints what the bytes give, at the end of the input what a line gives that has not ended.
 fn read_on(
     rt: &HostRuntime,
     program: &[u8],
@@ -28,25 +34,23 @@ fn read_on(
     drill: Drill,
     input: &mut [u8],
     out: &mut [u8],
-) -> ControlFlow<Option<Drill>, Drill> {
+) -> ControlFlow<Last, Drill> {
     let count = program_files::read_some(rt, program, file, input);
     let fed = if count == 0 {
         drill.finish(out)
     } else {
         drill.feed(&input[..count], out)
     };
-    let next = fed.drill;
-    if !print(rt, program, true, &out[..fed.length]) {
-        return ControlFlow::Break(None);
+    let drill = fed.drill;
+    let printed = print(rt, program, true, &out[..fed.length]);
+    if printed & (count != 0) {
+        ControlFlow::Continue(drill)
+    } else {
+        ControlFlow::Break(Last { drill, printed })
     }
-    if count == 0 {
-        return ControlFlow::Break(Some(next));
-    }
-    ControlFlow::Continue(next)
 }
 
-// The drill after all moves, where every line was printed.
-fn run(rt: &HostRuntime, program: &[u8], file: &mut impl Read, start: Drill) -> Option<Drill> {
+fn run(rt: &HostRuntime, program: &[u8], file: &mut impl Read, start: Drill) -> Last {
     let mut input = [0; READ_LENGTH];
     let mut out = program_files::text_room();
     let end = turns(start, |drill| {
@@ -54,7 +58,10 @@ fn run(rt: &HostRuntime, program: &[u8], file: &mut impl Read, start: Drill) -> 
     });
     match end {
         ControlFlow::Break(last) => last,
-        ControlFlow::Continue(drill) => Some(drill),
+        ControlFlow::Continue(drill) => Last {
+            drill,
+            printed: true,
+        },
     }
 }
 
@@ -72,12 +79,13 @@ pub fn drill(
     })
 }
 
-// One line more, by the master that the moves left.
-fn print_why(rt: &HostRuntime, program: &[u8], plan: Plan, drill: Drill) {
+// One line more, by the master that the moves left, if every line before it was printed.
+fn print_why(rt: &HostRuntime, program: &[u8], plan: Plan, last: Last) {
     let mut room = program_files::text_room();
     let mut out = Writer::new(&mut room);
-    append_why(&mut out, explain(plan, drill.world.master));
-    print(rt, program, true, out.written());
+    let explained = Explained::from(explain(plan, last.drill.world.master));
+    append_why(&mut out, explained);
+    print(rt, program, last.printed, out.written());
 }
 
 // The same as `drill`, and why the master is awake.
@@ -90,8 +98,7 @@ pub fn why(
     ensures { number_of result ≡ (read_set set.now).refusal }
 {
     with_plan(rt, program, set, |plan| {
-        if let Some(drill) = run(rt, program, file, Drill::start(plan)) {
-            print_why(rt, program, plan, drill);
-        }
+        let last = run(rt, program, file, Drill::start(plan));
+        print_why(rt, program, plan, last);
     })
 }

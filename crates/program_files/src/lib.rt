@@ -2,11 +2,12 @@
 // file holds and whether a write succeeds is outside any promise, so of reading only the count is promised.
 #![tactic(auto)]
 
-ghost use Rattle.std.specs.Prelude.{ℕ, List, ◌≡◌, false, length, replicate, IfSome, IsErr, MatchResult};
+ghost use Rattle.std.specs.Prelude.{ℕ, List, ◌≡◌, false, length, replicate, IsErr, MatchResult};
 ghost use Rattle.std.specs.Str.{IsUtf8};
 ghost use Rattle.base_refusals.specs.Numbers.{number_of};
 ghost use Rattle.base_text.specs.Text.{Counts};
 ghost use Rattle.set_reader.specs.Read.{read_told, read_set};
+ghost use Rattle.program_files.specs.Turns.{TurnsTo};
 
 mod words;
 
@@ -196,16 +197,14 @@ fn print_refusal(rt: &HostRuntime, program: &[u8], refusal: Refusal) {
 }
 
 // The set in a file. One that can't be read is refused as one of a wrong length is.
-fn read_named(rt: &HostRuntime, program: &[u8], name: &[u8], set: &mut [u8]) -> Option<usize>
-    ensures { IfSome result (λ count. Counts count set.new) }
+fn read_named(rt: &HostRuntime, program: &[u8], name: &[u8], set: &mut [u8]) -> Result<usize, usize>
+    ensures { MatchResult result (λ count. Counts count set.new) (λ count. Counts count set.new) }
 {
-    match read_file(rt, program, name, set) {
-        Ok(count) => Some(count),
-        Err(_) => {
-            print_refusal(rt, program, Refusal::WrongSize);
-            None
-        }
+    let read = read_file(rt, program, name, set);
+    if read.is_err() {
+        print_refusal(rt, program, Refusal::WrongSize);
     }
+    read
 }
 
 fn print_help(rt: &HostRuntime, program: &[u8], about: &[u8]) {
@@ -220,9 +219,15 @@ fn say_usage(rt: &HostRuntime, program: &[u8]) {
     say(rt, &line[..length]);
 }
 
-// Reads the set that the arguments name. Where there is none, all is said, and the program has nothing to do.
-pub fn read_set(rt: &HostRuntime, program: &[u8], about: &[u8], set: &mut [u8]) -> Option<usize>
-    ensures { IfSome result (λ count. Counts count set.new) }
+// Reads the set that the arguments name. Where there is none, or no whole one, all is said, the program has nothing to do, and the error has
+// how many bytes were read.
+pub fn read_set(
+    rt: &HostRuntime,
+    program: &[u8],
+    about: &[u8],
+    set: &mut [u8],
+) -> Result<usize, usize>
+    ensures { MatchResult result (λ count. Counts count set.new) (λ count. Counts count set.new) }
 {
     let mut room = line_room();
     let length = argument(rt, 1, &mut room);
@@ -232,11 +237,11 @@ pub fn read_set(rt: &HostRuntime, program: &[u8], about: &[u8], set: &mut [u8]) 
         Invocation::Named => read_named(rt, program, &room[..length], set),
         Invocation::Help => {
             print_help(rt, program, about);
-            None
+            Err(0)
         }
         Invocation::Usage => {
             say_usage(rt, program);
-            None
+            Err(0)
         }
     }
 }
@@ -247,7 +252,7 @@ pub fn with_set<F: FnOnce(&[u8])>(rt: &HostRuntime, program: &[u8], about: &[u8]
     ensures { result ≡ tt }
 {
     let mut set = set_room();
-    if let Some(count) = read_set(rt, program, about, &mut set) {
+    if let Ok(count) = read_set(rt, program, about, &mut set) {
         run(&set[..count]);
     }
 }
@@ -302,7 +307,8 @@ pub fn with_plan<F: FnOnce(Plan)>(
 // that no run uses up.
 pub fn turns<S, B, F: FnMut(S) -> ControlFlow<B, S>>(start: S, mut turn: F) -> ControlFlow<B, S>
     requires { F.IsAlwaysCallable turn }
-    ensures { (last : B) → result ≡ ControlFlow.Break last → (before : F) × (state : S) × F.post before state (ControlFlow.Break last) }
+    ensures last { (last : B) → result ≡ ControlFlow.Break last → (before : F) × (state : S) × F.post before state (ControlFlow.Break last) }
+    ensures turns { TurnsTo (λ before state given after. F.step before state given after) 18446744073709551615 turn start result }
 {
     let mut state = start;
     for _ in 0..u64::MAX {

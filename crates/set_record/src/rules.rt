@@ -12,7 +12,9 @@ use base_refusals::Refusal;
 use set_plan::{Plan, table_index};
 
 impl<'a> Record<'a> {
-    // Not set_plan's rule of the entries, since firmware/retarget.py refuses a closure that holds a slice.
+    // Not set_plan's rule of the entries, since firmware/retarget.py refuses a closure that holds a slice. On x86-64 its table is not to lie on the
+    // stack beside that of the rows.
+    #[inline(never)]
     fn each_node_right(self, count: u32) -> bool
         requires { count ≤ max_nodes }
         ensures { result ≡ all_to (node_right (plan_in self.entry.bytes.now).nodes) count }

@@ -24,7 +24,7 @@ loop-i-preserved c =
     let rs = c.loop-i.replies in
     let l : i < length es = omega arith in
     let t = c.loop-i.invariant in
-    let s : c.step_record-s.result ≡ stepped p m (get_or es i no_record) = rw c.judge-judged.ensures at c.step_record-s.ensures in (
+    let s : c.step_record-s.result ≡ stepped p m (get_or es i no_record) = rw (c.number_of-refusal.ensures ∙ c.judge.ensures) at c.step_record-s.ensures in (
       length-set rs i c.step_record-s.result.reply ∙ t.0,
       rw (add-one i) (t.1 ∙ next_master p m es i l ∙ ap (λ (x : Stepped). master_after p x.master (drop (suc i) es)) (sym s)),
       rw (add-one i) (t.2 ∙ next_replies p m es i rs l ∙ ap (λ (x : Stepped). replies_from p x.master (drop (suc i) es) (suc i) (set rs i x.reply)) (sym s)),
